@@ -1,0 +1,7 @@
+pub mod Bools
+pub mod Numbers
+pub mod Counted
+pub mod Tabled
+pub mod Swept
+pub mod Chain
+pub mod Signs

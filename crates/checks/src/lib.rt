@@ -1,0 +1,123 @@
+// The tests of document 01's refusal table that many calls share. Each answers whether its input is in order and reads the whole
+// of the plane it is lent: no loop leaves early, so that the compiler can take many cells at a time.
+ghost use mathlib.Core.Path.{_≡_};
+ghost use mathlib.Core.Bool.{Bool, true, _&&_};
+ghost use Prim.Native.Nat.{_*_, _+_, _≤_};
+ghost use lib.Dec.{leb};
+ghost use Rattle.base.specs.Counting.{within};
+ghost use Rattle.rules.specs.Tests.{boardSides, sampleSides, hasLength, tileNumber, wholeTiles, colourCount, noneAbove, piecesStored};
+ghost use Rattle.rules.specs.Tiles.{tilesCounted};
+ghost use Rattle.rules.specs.Floats.{isNumber, isFinite, allAre};
+use rules::TileNumber;
+
+fn within_bounds(least: usize, most: usize, n: usize) -> bool
+    ensures { λ r. ⌜ r ≡ within least most n ⌝ }
+{
+    if least <= n { n <= most } else { false }
+}
+
+pub fn board_sides(rows: usize, cols: usize) -> bool
+    ensures { λ r. ⌜ r ≡ boardSides rows cols ⌝ }
+{
+    if within_bounds(1, rules::MAX_BOARD_SIDE, rows) {
+        within_bounds(1, rules::MAX_BOARD_SIDE, cols)
+    } else {
+        false
+    }
+}
+
+pub fn sample_sides(rows: usize, cols: usize) -> bool
+    ensures { λ r. ⌜ r ≡ sampleSides rows cols ⌝ }
+{
+    if within_bounds(1, rules::MAX_SAMPLE_SIDE, rows) {
+        within_bounds(1, rules::MAX_SAMPLE_SIDE, cols)
+    } else {
+        false
+    }
+}
+
+// How many cells a board has whose sides are in bounds.
+pub fn cells_of(rows: usize, cols: usize) -> usize
+    requires { ⌜ boardSides rows cols ≡ true ⌝ }
+    ensures { λ r. ⌜ r ≡ rows * cols ⌝ }
+{
+    rows * cols
+}
+
+pub fn bytes_have_length(plane: &[u8], n: usize) -> bool
+    ensures { λ r. ⌜ r ≡ hasLength (now (plane .entry)) n ⌝ }
+{
+    plane.len() == n
+}
+
+pub fn words_have_length(plane: &[u32], n: usize) -> bool
+    ensures { λ r. ⌜ r ≡ hasLength (now (plane .entry)) n ⌝ }
+{
+    plane.len() == n
+}
+
+pub fn floats_have_length(plane: &[f64], n: usize) -> bool
+    ensures { λ r. ⌜ r ≡ hasLength (now (plane .entry)) n ⌝ }
+{
+    plane.len() == n
+}
+
+pub fn tile_number_fits(n: usize) -> bool
+    ensures { λ r. ⌜ r ≡ tileNumber n ⌝ }
+{
+    within_bounds(1, rules::MAX_TILES, n)
+}
+
+pub fn whole_tiles(tiles: &[u8]) -> bool
+    ensures { λ r. ⌜ r ≡ wholeTiles (now (tiles .entry)) ⌝ }
+{
+    if tiles.len() % rules::TILE_CELLS == 0 {
+        tile_number_fits(tiles.len() / rules::TILE_CELLS)
+    } else {
+        false
+    }
+}
+
+// How many tiles a list has.
+pub fn tile_number(tiles: &[u8]) -> TileNumber
+    ensures { λ r. ⌜ r ≡ tilesCounted (now (tiles .entry)) ⌝ }
+{
+    if !whole_tiles(tiles) {
+        return TileNumber::Refused(rules::LENGTH);
+    }
+    TileNumber::Tiles(tiles.len() / rules::TILE_CELLS)
+}
+
+pub fn colour_count(count: u32) -> bool
+    ensures { λ r. ⌜ r ≡ colourCount count ⌝ }
+{
+    if 1 <= count {
+        count <= rules::MAX_COLOURS
+    } else {
+        false
+    }
+}
+
+fn and_too(so_far: bool, here: bool) -> bool
+    ensures { λ r. ⌜ r ≡ (so_far && here) ⌝ }
+{
+    so_far & here
+}
+
+fn byte_up_to(b: u8, most: u32) -> bool
+    ensures { λ r. ⌜ r ≡ leb b most ⌝ }
+{
+    b as u32 <= most
+}
+
+pub fn no_byte_above(plane: &[u8], most: u32) -> bool
+    ensures { λ r. ⌜ r ≡ noneAbove (now (plane .entry)) most ⌝ }
+{
+    let mut fine = true;
+    let mut k = 0;
+    while k < plane.len() {
+        fine = and_too(fine, byte_up_to(plane[k], most));
+        k += 1;
+    }
+    fine
+}

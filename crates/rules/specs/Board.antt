@@ -1,0 +1,158 @@
+-- Document 01, "Weights, counts, scores", and the added board: fresh, lay, lift; and what the standing pieces alone say (demand 3).
+use Prim.Native.Nat.{ℕ, zero, suc, _+_, _-_, _*_}
+use mathlib.Core.Bool.{Bool, true, false, not, _&&_}
+use mathlib.Core.List.{List}
+use lib.Dec.{leb, ltb, eqb}
+use lib.ListN.{length, getD, set}
+use Rattle.base.specs.Counting.{pick, sum, within}
+use Rattle.base.specs.Tables.{tab}
+use Rattle.base.specs.Refusal.{Checks, accepted, _unless_or_, refusal, unlessRefused}
+use Rattle.rules.specs.Bounds.{maxWeight, bare, SHAPE, LENGTH, COUNT, CELL, TYPE, TAKEN, BARE}
+use Rattle.rules.specs.Tests.{boardSides, hasLength, wholeTiles, tilesIn, tileNumber, colourCount, noneAbove, piecesStored}
+use Rattle.rules.specs.Grid.{Shape, flat, numberOf, laidOn}
+use Rattle.rules.specs.Fit.{pattern, fitCount, placeChecks}
+use Rattle.rules.specs.declared.World.{World}
+use Rattle.rules.specs.declared.Offset.{Offset}
+
+-- what stays fixed while a board is in use
+pub record Job : Type 0 where
+  pub rows : ℕ
+  pub cols : ℕ
+  pub count : ℕ
+  pub tiles : List ℕ
+  pub offset : Offset
+
+pub record Board : Type 0 where
+  pub pieces : List ℕ
+  pub weights : List ℕ
+  pub counts : List ℕ
+
+abbrev pub shapeOf : Job → Shape
+shapeOf j = flat (j .rows) (j .cols)
+
+abbrev pub cellIn : Job → World → ℕ
+cellIn j w = numberOf (j .cols) w (j .offset)
+
+-- ---- what the standing pieces alone say
+
+-- 3 at most one cell away, 1 exactly two away
+abbrev pub share : ℕ → ℕ
+share distance = pick (leb distance 1) 3 (pick (leb distance 2) 1 0)
+
+-- what a piece on cell j adds to the weight of cell k
+abbrev pub reach : Shape → ℕ → ℕ → ℕ
+reach g j k = share (g .apart j k)
+
+-- each weight is 1, plus 3 per piece at most one cell away, plus 1 per piece exactly two away
+unfoldable pub weightsOf : Shape → List ℕ → List ℕ
+weightsOf g pieces = tab (g .cells) (λ k. 1 + sum (g .cells) (λ j. pick (laidOn pieces j) (reach g j k) 0))
+
+-- each count is the number of tiles that fit its region, or all tiles where the region passes the edge
+unfoldable pub countsOf : Shape → List ℕ → List ℕ → List ℕ
+countsOf g tiles pieces = tab (g .cells) (λ s. pick (g .whole s) (fitCount tiles (pattern g pieces s)) (tilesIn tiles))
+
+unfoldable pub boardOf : Shape → List ℕ → List ℕ → Board
+boardOf g tiles pieces = record { pieces = pieces; weights = weightsOf g pieces; counts = countsOf g tiles pieces }
+
+-- ---- the steps
+
+-- Lay adds 3 to weights at distance 0 or 1 and 1 at distance 2; lift subtracts the same, stopping at 0
+unfoldable pub raised : Shape → ℕ → List ℕ → List ℕ
+raised g k weights = tab (length weights) (λ i. getD weights i 0 + reach g k i)
+
+unfoldable pub lowered : Shape → ℕ → List ℕ → List ℕ
+lowered g k weights = tab (length weights) (λ i. getD weights i 0 - reach g k i)
+
+-- Both then recount: region starts within distance 2 whose region lies inside the grid; other counts stay
+abbrev pub isRecounted : Shape → ℕ → ℕ → Bool
+isRecounted g k s = leb (g .apart k s) 2 && g .whole s
+
+unfoldable pub recounted : Shape → List ℕ → List ℕ → ℕ → List ℕ → List ℕ
+recounted g tiles pieces k counts =
+    tab (length counts) (λ s. pick (isRecounted g k s) (fitCount tiles (pattern g pieces s)) (getD counts s 0))
+
+-- lay stores the piece, lift stores bare
+unfoldable pub laid : Shape → List ℕ → Board → ℕ → ℕ → Board
+laid g tiles b k colour =
+    let pieces : List ℕ = set (b .pieces) k (colour + 1) in
+    record { pieces = pieces; weights = raised g k (b .weights); counts = recounted g tiles pieces k (b .counts) }
+
+unfoldable pub lifted : Shape → List ℕ → Board → ℕ → Board
+lifted g tiles b k =
+    let pieces : List ℕ = set (b .pieces) k bare in
+    record { pieces = pieces; weights = lowered g k (b .weights); counts = recounted g tiles pieces k (b .counts) }
+
+-- Fresh: pieces 1, weights 1, counts the number of tiles
+unfoldable pub freshBoard : ℕ → ℕ → Board
+freshBoard cells tiles =
+    record { pieces = tab cells (λ k. bare); weights = tab cells (λ k. 1); counts = tab cells (λ k. tiles) }
+
+-- ---- the calls
+
+abbrev pub boardChecks : Job → Board → Checks → Checks
+boardChecks j b more =
+    SHAPE unless boardSides (j .rows) (j .cols)
+    or LENGTH unless hasLength (b .pieces) (j .rows * j .cols)
+    or LENGTH unless hasLength (b .weights) (j .rows * j .cols)
+    or LENGTH unless hasLength (b .counts) (j .rows * j .cols)
+    or LENGTH unless wholeTiles (j .tiles)
+    or COUNT unless colourCount (j .count)
+    or CELL unless noneAbove (j .tiles) (j .count)
+    or CELL unless piecesStored (b .pieces) (j .count)
+    or CELL unless noneAbove (b .weights) maxWeight
+    or CELL unless noneAbove (b .counts) (tilesIn (j .tiles))
+    or more
+
+abbrev pub layChecks : Job → Board → World → ℕ → Checks
+layChecks j b w colour =
+    boardChecks j b
+    (placeChecks (j .rows) (j .cols) w (j .offset)
+    (TYPE unless within 1 (j .count) colour
+    or TAKEN unless not (laidOn (b .pieces) (cellIn j w))
+    or accepted))
+
+abbrev pub liftChecks : Job → Board → World → Checks
+liftChecks j b w =
+    boardChecks j b
+    (placeChecks (j .rows) (j .cols) w (j .offset)
+    (BARE unless laidOn (b .pieces) (cellIn j w)
+    or accepted))
+
+-- the board that a call leaves; a refused call changes nothing
+unfoldable pub afterLay : Job → Board → World → ℕ → Board
+afterLay j b w colour = unlessRefused (refusal (layChecks j b w colour)) (laid (shapeOf j) (j .tiles) b (cellIn j w) colour) b
+
+unfoldable pub afterLift : Job → Board → World → Board
+afterLift j b w = unlessRefused (refusal (liftChecks j b w)) (lifted (shapeOf j) (j .tiles) b (cellIn j w)) b
+
+abbrev pub freshChecks : ℕ → ℕ → ℕ → Board → Checks
+freshChecks rows cols tiles b =
+    SHAPE unless boardSides rows cols
+    or LENGTH unless hasLength (b .pieces) (rows * cols)
+    or LENGTH unless hasLength (b .weights) (rows * cols)
+    or LENGTH unless hasLength (b .counts) (rows * cols)
+    or LENGTH unless tileNumber tiles
+    or accepted
+
+unfoldable pub afterFresh : ℕ → ℕ → ℕ → Board → Board
+afterFresh rows cols tiles b = unlessRefused (refusal (freshChecks rows cols tiles b)) (freshBoard (rows * cols) tiles) b
+
+-- the ported steps of their own: weights up and down, and the recount
+abbrev pub weightChecks : List ℕ → ℕ → ℕ → World → Offset → Checks
+weightChecks weights rows cols w o =
+    SHAPE unless boardSides rows cols
+    or LENGTH unless hasLength weights (rows * cols)
+    or CELL unless noneAbove weights maxWeight
+    or placeChecks rows cols w o accepted
+
+abbrev pub recountChecks : List ℕ → List ℕ → ℕ → ℕ → List ℕ → ℕ → World → Offset → Checks
+recountChecks counts pieces rows cols tiles count w o =
+    SHAPE unless boardSides rows cols
+    or LENGTH unless hasLength counts (rows * cols)
+    or LENGTH unless hasLength pieces (rows * cols)
+    or LENGTH unless wholeTiles tiles
+    or COUNT unless colourCount count
+    or CELL unless noneAbove tiles count
+    or CELL unless piecesStored pieces count
+    or CELL unless noneAbove counts (tilesIn tiles)
+    or placeChecks rows cols w o accepted

@@ -1,0 +1,93 @@
+-- Document 01, "Fit": how many tiles fit a region, and which colours fit a cell.
+use Prim.Native.Nat.{ℕ, zero, suc, _+_, _*_}
+use mathlib.Core.Bool.{Bool, true, false, not, _&&_, _||_}
+use mathlib.Core.List.{List, [], _∷_}
+use lib.Dec.{ltb, eqb}
+use lib.ListN.{getD}
+use Rattle.base.specs.Counting.{every, some, tally}
+use Rattle.base.specs.Refusal.{Checks, accepted, _unless_or_, refusal}
+use Rattle.rules.specs.Bounds.{SHAPE, LENGTH, COUNT, CELL, PLACE}
+use Rattle.rules.specs.Tests.{boardSides, hasLength, wholeTiles, tilesIn, colourCount, noneAbove, piecesStored, onWall, offsetFits, onBoard}
+use Rattle.rules.specs.Answers.{listingAnswer, numberAnswer}
+use Rattle.rules.specs.Sets.{setOf}
+use Rattle.rules.specs.Grid.{Shape, flat, cellNumber, numberOf, colourOn}
+use Rattle.rules.specs.declared.World.{World}
+use Rattle.rules.specs.declared.Offset.{Offset}
+use Rattle.rules.specs.declared.Cell.{Cell}
+use Rattle.rules.specs.declared.Listing.{Listing}
+use Rattle.rules.specs.declared.Number.{Number}
+
+-- the 3x3 pattern of what starts at s: the colour at each place, 0 where it is bare
+abbrev pub pattern : Shape → List ℕ → ℕ → ℕ → ℕ
+pattern g pieces s i = colourOn pieces (g .place s i)
+
+-- A tile fits a pattern when it equals it wherever the pattern isn't bare
+unfoldable pub agrees : ℕ → ℕ → Bool
+agrees colour cell = eqb colour 0 || eqb colour cell
+
+abbrev pub agreesAt : List ℕ → (ℕ → ℕ) → ℕ → ℕ → Bool
+agreesAt tiles shown n i = agrees (shown i) (getD tiles (n * 9 + i) 0)
+
+unfoldable pub fitsTile : List ℕ → (ℕ → ℕ) → ℕ → Bool
+fitsTile tiles shown n = every 9 (agreesAt tiles shown n)
+
+-- the number of tiles that fit
+unfoldable pub fitCount : List ℕ → (ℕ → ℕ) → ℕ
+fitCount tiles shown = tally (tilesIn tiles) (fitsTile tiles shown)
+
+-- there is a fitting tile with colour t at place q
+abbrev pub serves : List ℕ → (ℕ → ℕ) → ℕ → ℕ → ℕ → Bool
+serves tiles shown q t n = fitsTile tiles shown n && eqb t (getD tiles (n * 9 + q) 0)
+
+unfoldable pub hasFitting : List ℕ → (ℕ → ℕ) → ℕ → ℕ → Bool
+hasFitting tiles shown q t = some (tilesIn tiles) (serves tiles shown q t)
+
+-- the window that has cell k at place q is skipped, or has a fitting tile with colour t at the cell's place
+unfoldable pub allows : Shape → List ℕ → List ℕ → ℕ → ℕ → ℕ → Bool
+allows g tiles pieces k t q = not (g .kept k q) || hasFitting tiles (pattern g pieces (g .start k q)) q t
+
+-- the place that the cell has in each of its nine windows, in the text's order: the window centred on the cell, then those
+-- centred up, left, right and down of it, then on the corners row by row
+abbrev pub windowOrder : List ℕ
+windowOrder = 4 ∷ 7 ∷ 5 ∷ 3 ∷ 1 ∷ 8 ∷ 6 ∷ 2 ∷ 0 ∷ []
+
+-- colour t is left at cell k after the first n windows
+unfoldable pub leftAfter : Shape → List ℕ → List ℕ → ℕ → ℕ → ℕ → Bool
+leftAfter g tiles pieces k n t = every n (λ i. allows g tiles pieces k t (getD windowOrder i 0))
+
+-- A colour is listed exactly if every kept window has a fitting tile with that colour at the cell's place. Tile cells holding 0
+-- list nothing, since colours are counted from 1
+abbrev pub lists : Shape → List ℕ → List ℕ → ℕ → ℕ → Bool
+lists g tiles pieces k t = leftAfter g tiles pieces k 9 t
+
+-- the checks of every call that reads pieces and tiles
+abbrev pub piecesChecks : List ℕ → ℕ → ℕ → List ℕ → ℕ → Checks → Checks
+piecesChecks pieces rows cols tiles count more =
+    SHAPE unless boardSides rows cols
+    or LENGTH unless hasLength pieces (rows * cols)
+    or LENGTH unless wholeTiles tiles
+    or COUNT unless colourCount count
+    or CELL unless noneAbove tiles count
+    or CELL unless piecesStored pieces count
+    or more
+
+-- the checks of a place that has to lie on the board
+abbrev pub placeChecks : ℕ → ℕ → World → Offset → Checks → Checks
+placeChecks rows cols w o more =
+    PLACE unless onWall w
+    or PLACE unless offsetFits o
+    or PLACE unless onBoard rows cols w o
+    or more
+
+unfoldable pub listing : List ℕ → ℕ → ℕ → List ℕ → ℕ → World → Offset → Listing
+listing pieces rows cols tiles count w o =
+    listingAnswer
+    (refusal (piecesChecks pieces rows cols tiles count (placeChecks rows cols w o accepted)))
+    (setOf count (lists (flat rows cols) tiles pieces (numberOf cols w o)))
+
+-- the number of tiles that fit the region that starts at a cell; past the edge it is bare
+unfoldable pub regionCount : List ℕ → ℕ → ℕ → List ℕ → ℕ → Cell → Number
+regionCount pieces rows cols tiles count s =
+    numberAnswer
+    (refusal (piecesChecks pieces rows cols tiles count (PLACE unless ltb (s .0) rows && ltb (s .1) cols or accepted)))
+    (fitCount tiles (pattern (flat rows cols) pieces (s .0 * cols + s .1)))

@@ -1,0 +1,178 @@
+-- Document 01, "Fit": forced neighbours, the queue, the dead end.
+use Prim.Native.Nat.{ℕ, zero, suc, _+_, _-_, _*_, _/_, _%_}
+use mathlib.Core.Bool.{Bool, true, false, not, _&&_, _||_}
+use mathlib.Core.List.{List, [], _∷_, _++_}
+use lib.Dec.{leb, ltb, eqb}
+use lib.ListN.{length, getD, take, drop, replicate}
+use lib.IntN.{ℤ, pos, _+ℤ_, _-ℤ_}
+use Rattle.base.specs.Counting.{pick, first}
+use Rattle.base.specs.Tables.{those, fold}
+use Rattle.base.specs.Whole.{eqZ}
+use Rattle.base.specs.Refusal.{Checks, accepted, _unless_or_, refusal, unlessRefused}
+use Rattle.rules.specs.Bounds.{maxWeight, queueRoom, addedRoom, SHAPE, LENGTH, COUNT, CELL, PLACE, ROOM}
+use Rattle.rules.specs.Tests.{boardSides, hasLength, wholeTiles, colourCount, noneAbove, piecesStored, onWall, onBoard}
+use Rattle.rules.specs.Answers.{verdictAnswer, numberAnswer, writtenAnswer, deadEndAnswer, nextAnswer}
+use Rattle.rules.specs.Places.{inBox}
+use Rattle.rules.specs.Sets.{coloursOf}
+use Rattle.rules.specs.Grid.{Shape, flat, numberOf, laidOn}
+use Rattle.rules.specs.Fit.{lists, piecesChecks, placeChecks}
+use Rattle.rules.specs.declared.World.{World}
+use Rattle.rules.specs.declared.Offset.{Offset}
+use Rattle.rules.specs.declared.GenerationBounds.{GenerationBounds}
+use Rattle.rules.specs.declared.GenerationBounds.the-variants.{Unbounded, Within}
+use Rattle.rules.specs.declared.ForcedPosition.{ForcedPosition}
+use Rattle.rules.specs.declared.ForcedPositions.{ForcedPositions}
+use Rattle.rules.specs.declared.ForcedPipeline.{ForcedPipeline}
+use Rattle.rules.specs.declared.ForcedAnswer.{ForcedAnswer}
+use Rattle.rules.specs.declared.Taken.{Taken}
+use Rattle.rules.specs.declared.Grown.{Grown}
+use Rattle.rules.specs.declared.Verdict.{Verdict}
+use Rattle.rules.specs.declared.Number.{Number}
+use Rattle.rules.specs.declared.DeadEnd.{DeadEnd}
+
+-- ---- forced neighbours
+
+-- the place at place d, row by row from 0 to 8, of the 3x3 round w; d = 4 is w itself
+unfoldable pub neighbour : World → ℕ → World
+neighbour w d = record { 0 = (w .0 +ℤ pos (d / 3)) -ℤ pos 1; 1 = (w .1 +ℤ pos (d % 3)) -ℤ pos 1 }
+
+-- not outside the box, if one is given
+unfoldable pub admits : GenerationBounds → World → Bool
+admits Unbounded w = true
+admits (Within b) w = inBox b w
+
+-- the corners of the box, if one is given, are on the wall
+unfoldable pub boundsFit : GenerationBounds → Bool
+boundsFit Unbounded = true
+boundsFit (Within b) = onWall (b .min) && onWall (b .max)
+
+-- the colours listed at cell k
+abbrev pub listedAt : Shape → List ℕ → List ℕ → ℕ → ℕ → List ℕ
+listedAt g tiles pieces count k = coloursOf count (lists g tiles pieces k)
+
+-- the only one of a list of colours; 0 where there is none or more than one
+abbrev pub only : List ℕ → ℕ
+only [] = 0
+only (t ∷ []) = t
+only (t ∷ u ∷ l) = 0
+
+-- omitted are those outside the box or the grid, those laid, and those with other than one listed colour
+unfoldable pub isForced : List ℕ → ℕ → ℕ → List ℕ → ℕ → World → Offset → GenerationBounds → Bool
+isForced pieces rows cols tiles count w o b =
+    admits b w
+    && onBoard rows cols w o
+    && not (laidOn pieces (numberOf cols w o))
+    && eqb (length (listedAt (flat rows cols) tiles pieces count (numberOf cols w o))) 1
+
+unfoldable pub forcedThere : List ℕ → ℕ → ℕ → List ℕ → ℕ → World → Offset → ForcedPosition
+forcedThere pieces rows cols tiles count w o =
+    record { coordinates = w; colour = only (listedAt (flat rows cols) tiles pieces count (numberOf cols w o)) }
+
+-- the eight neighbours row by row
+unfoldable pub forcedRound : List ℕ → ℕ → ℕ → List ℕ → ℕ → World → Offset → GenerationBounds → List ForcedPosition
+forcedRound pieces rows cols tiles count w o b =
+    those 9 (λ d. not (eqb d 4) && isForced pieces rows cols tiles count (neighbour w d) o b)
+    (λ d. forcedThere pieces rows cols tiles count (neighbour w d) o)
+
+-- Unused entries are 0
+abbrev pub noPosition : ForcedPosition
+noPosition = record { coordinates = record { 0 = pos 0; 1 = pos 0 }; colour = 0 }
+
+unfoldable pub padded : ℕ → List ForcedPosition → List ForcedPosition
+padded room l = l ++ replicate (room - length l) noPosition
+
+unfoldable pub positionsOf : List ForcedPosition → ForcedPositions
+positionsOf l = record { entries = padded addedRoom l; len = length l }
+
+unfoldable pub forcedNeighbours : List ℕ → ℕ → ℕ → List ℕ → ℕ → World → Offset → GenerationBounds → ForcedAnswer
+forcedNeighbours pieces rows cols tiles count w o b =
+    let n : ℕ = refusal (piecesChecks pieces rows cols tiles count (placeChecks rows cols w o (PLACE unless boundsFit b or accepted))) in
+    record { refused = n; found = positionsOf (unlessRefused n (forcedRound pieces rows cols tiles count w o b) []) }
+
+-- ---- the queue: first in, first out. Its entries stand from entry 0, next out first; those past its length are not read
+
+unfoldable pub queued : ForcedPipeline → List ForcedPosition
+queued q = take (q .len) (q .entries)
+
+unfoldable pub offered : ForcedPositions → List ForcedPosition
+offered p = take (p .len) (p .entries)
+
+-- an accepted call leaves the entries past the length at 0
+unfoldable pub queueOf : List ForcedPosition → ForcedPipeline
+queueOf l = record { entries = padded queueRoom l; len = length l }
+
+unfoldable pub samePlace : World → World → Bool
+samePlace w v = eqZ (w .0) (v .0) && eqZ (w .1) (v .1)
+
+unfoldable pub isQueued : World → List ForcedPosition → Bool
+isQueued w [] = false
+isQueued w (e ∷ l) = samePlace (e .coordinates) w || isQueued w l
+
+-- a place already queued is skipped, even with another colour
+unfoldable pub withPosition : List ForcedPosition → ForcedPosition → List ForcedPosition
+withPosition l e = pick (isQueued (e .coordinates) l) l (l ++ (e ∷ []))
+
+unfoldable pub withPositions : List ForcedPosition → List ForcedPosition → List ForcedPosition
+withPositions l more = fold withPosition l more
+
+unfoldable pub allOnWall : List ForcedPosition → Bool
+allOnWall [] = true
+allOnWall (e ∷ l) = onWall (e .coordinates) && allOnWall l
+
+abbrev pub queueChecks : ForcedPipeline → Checks
+queueChecks q =
+    SHAPE unless leb (q .len) queueRoom
+    or PLACE unless allOnWall (queued q)
+    or accepted
+
+abbrev pub addChecks : ForcedPipeline → ForcedPositions → Checks
+addChecks q p =
+    SHAPE unless leb (q .len) queueRoom
+    or SHAPE unless leb (p .len) addedRoom
+    or PLACE unless allOnWall (queued q)
+    or PLACE unless allOnWall (offered p)
+    or ROOM unless leb (length (withPositions (queued q) (offered p))) queueRoom
+    or accepted
+
+unfoldable pub grownBy : ForcedPipeline → ForcedPositions → Grown
+grownBy q p =
+    let n : ℕ = refusal (addChecks q p) in
+    record { answer = writtenAnswer n; queue = unlessRefused n (queueOf (withPositions (queued q) (offered p))) q }
+
+-- Taking from an empty queue says "nothing"
+unfoldable pub takenFrom : ForcedPipeline → Taken
+takenFrom q =
+    let n : ℕ = refusal (queueChecks q) in
+    record { next = nextAnswer n (queued q); queue = unlessRefused n (queueOf (drop 1 (queued q))) q }
+
+unfoldable pub queueEmpty : ForcedPipeline → Verdict
+queueEmpty q = verdictAnswer (refusal (queueChecks q)) (eqb (q .len) 0)
+
+unfoldable pub queueLength : ForcedPipeline → Number
+queueLength q = numberAnswer (refusal (queueChecks q)) (q .len)
+
+-- ---- the dead end: the first cell, row by row, that is bare, has weight above 1 and lists no colour
+
+unfoldable pub deadAt : Shape → List ℕ → List ℕ → List ℕ → ℕ → ℕ → Bool
+deadAt g tiles pieces weights count k =
+    not (laidOn pieces k) && ltb 1 (getD weights k 0) && eqb (length (listedAt g tiles pieces count k)) 0
+
+abbrev pub scanChecks : List ℕ → List ℕ → ℕ → ℕ → List ℕ → ℕ → Checks
+scanChecks pieces weights rows cols tiles count =
+    SHAPE unless boardSides rows cols
+    or LENGTH unless hasLength pieces (rows * cols)
+    or LENGTH unless hasLength weights (rows * cols)
+    or LENGTH unless wholeTiles tiles
+    or COUNT unless colourCount count
+    or CELL unless noneAbove tiles count
+    or CELL unless piecesStored pieces count
+    or CELL unless noneAbove weights maxWeight
+    or accepted
+
+unfoldable pub deadEnd : List ℕ → List ℕ → ℕ → ℕ → List ℕ → ℕ → DeadEnd
+deadEnd pieces weights rows cols tiles count =
+    let k : ℕ = first (rows * cols) (deadAt (flat rows cols) tiles pieces weights count) in
+    deadEndAnswer
+    (refusal (scanChecks pieces weights rows cols tiles count))
+    (ltb k (rows * cols))
+    (record { 0 = k / cols; 1 = k % cols })

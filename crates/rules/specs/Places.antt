@@ -1,0 +1,153 @@
+-- Document 01, "Places": spans, boxes, extension, the copy of a plane into a larger one.
+use Prim.Native.Nat.{ℕ, zero, suc, _+_, _-_, _*_, _/_, _%_}
+use mathlib.Core.Bool.{Bool, true, false, _&&_}
+use mathlib.Core.List.{List}
+use lib.Dec.{leb, ltb}
+use lib.ListN.{getD}
+use lib.IntN.{ℤ, pos, _+ℤ_, _-ℤ_}
+use lib.Signed.{leZ}
+use Rattle.base.specs.Counting.{pick, within}
+use Rattle.base.specs.Tables.{tab}
+use Rattle.base.specs.Whole.{clip}
+use Rattle.base.specs.Refusal.{Checks, accepted, _unless_or_, refusal}
+use Rattle.rules.specs.Bounds.{maxBoardSide, maxRadius, SHAPE, LENGTH, PLACE}
+use Rattle.rules.specs.Tests.{boardSides, hasLength, onWall, offsetFits}
+use Rattle.rules.specs.Answers.{spanAnswer, verdictAnswer, extensionAnswer}
+use Rattle.rules.specs.declared.World.{World}
+use Rattle.rules.specs.declared.Cell.{Cell}
+use Rattle.rules.specs.declared.Offset.{Offset}
+use Rattle.rules.specs.declared.Span.{Span}
+use Rattle.rules.specs.declared.BoundingBox.{BoundingBox}
+use Rattle.rules.specs.declared.Pads.{Pads}
+use Rattle.rules.specs.declared.ExtensionInfo.{ExtensionInfo}
+use Rattle.rules.specs.declared.SpanAnswer.{SpanAnswer}
+use Rattle.rules.specs.declared.Verdict.{Verdict}
+use Rattle.rules.specs.declared.ExtensionAnswer.{ExtensionAnswer}
+
+-- Index = coordinate + offset; a coordinate above or left of the grid has no index, and 0 stands for it
+unfoldable pub cellOf : World → Offset → Cell
+cellOf w o = record { 0 = clip (w .0 +ℤ o .0); 1 = clip (w .1 +ℤ o .1) }
+
+-- A span of radius k round index x runs from max(0, x-k) up to, not including, max(0, x+k+1)
+unfoldable pub spanOf : ℤ → ℕ → Span
+spanOf x k = record { 0 = clip (x -ℤ pos k); 1 = clip ((x +ℤ pos k) +ℤ pos 1) }
+
+abbrev pub spanChecks : Offset → World → ℕ → Checks
+spanChecks o w k =
+    SHAPE unless leb k maxRadius
+    or PLACE unless onWall w
+    or PLACE unless offsetFits o
+    or accepted
+
+unfoldable pub regionSpans : Offset → World → ℕ → SpanAnswer
+regionSpans o w k = spanAnswer (refusal (spanChecks o w k)) (spanOf (w .0 +ℤ o .0) k) (spanOf (w .1 +ℤ o .1) k)
+
+-- A box with min above max contains nothing
+unfoldable pub inBox : BoundingBox → World → Bool
+inBox b w = leZ (b .min .0) (w .0) && leZ (w .0) (b .max .0) && leZ (b .min .1) (w .1) && leZ (w .1) (b .max .1)
+
+abbrev pub boxFits : BoundingBox → Bool
+boxFits b = onWall (b .min) && onWall (b .max)
+
+abbrev pub boxChecks : BoundingBox → World → Checks
+boxChecks b w =
+    PLACE unless onWall (b .min)
+    or PLACE unless onWall (b .max)
+    or PLACE unless onWall w
+    or accepted
+
+unfoldable pub boxContains : BoundingBox → World → Verdict
+boxContains b w = verdictAnswer (refusal (boxChecks b w)) (inBox b w)
+
+-- the coordinates of the first and of the last cell of a side
+unfoldable pub firstOf : ℤ → ℤ
+firstOf o = pos 0 -ℤ o
+
+unfoldable pub lastOf : ℕ → ℤ → ℤ
+lastOf side o = (firstOf o +ℤ pos side) -ℤ pos 1
+
+-- each pad is how far coordinate-radius or coordinate+radius lies past the present edge, else 0
+unfoldable pub padBefore : ℤ → ℤ → ℕ → ℕ
+padBefore o x k = clip (firstOf o -ℤ (x -ℤ pos k))
+
+unfoldable pub padAfter : ℕ → ℤ → ℤ → ℕ → ℕ
+padAfter side o x k = clip ((x +ℤ pos k) -ℤ lastOf side o)
+
+-- with a box, each pad loses the excess past the box, never below 0
+unfoldable pub boxedBefore : ℤ → ℤ → ℕ → ℕ
+boxedBefore least o pad = pad - clip (least -ℤ (firstOf o -ℤ pos pad))
+
+unfoldable pub boxedAfter : ℤ → ℕ → ℤ → ℕ → ℕ
+boxedAfter most side o pad = pad - clip ((lastOf side o +ℤ pos pad) -ℤ most)
+
+-- left and right belong to the rows, top and bottom to the columns
+unfoldable pub padsOf : ℕ → ℕ → Offset → World → ℕ → Pads
+padsOf rows cols o w k =
+    record {
+      left = padBefore (o .0) (w .0) k;
+      right = padAfter rows (o .0) (w .0) k;
+      top = padBefore (o .1) (w .1) k;
+      bottom = padAfter cols (o .1) (w .1) k;
+    }
+
+unfoldable pub boxedPads : BoundingBox → ℕ → ℕ → Offset → Pads → Pads
+boxedPads b rows cols o p =
+    record {
+      left = boxedBefore (b .min .0) (o .0) (p .left);
+      right = boxedAfter (b .max .0) rows (o .0) (p .right);
+      top = boxedBefore (b .min .1) (o .1) (p .top);
+      bottom = boxedAfter (b .max .1) cols (o .1) (p .bottom);
+    }
+
+-- the new offset adds left and top
+unfoldable pub extensionBy : Offset → Pads → ExtensionInfo
+extensionBy o p =
+    record {
+      pads = p;
+      offset = record { 0 = o .0 +ℤ pos (p .left); 1 = o .1 +ℤ pos (p .top) };
+      needed = ltb 0 (((p .left + p .right) + p .top) + p .bottom);
+    }
+
+abbrev pub extensionChecks : ℕ → ℕ → Offset → World → ℕ → Checks → Checks
+extensionChecks rows cols o w k more =
+    SHAPE unless boardSides rows cols
+    or SHAPE unless leb k maxRadius
+    or PLACE unless onWall w
+    or PLACE unless offsetFits o
+    or more
+
+unfoldable pub extensionOf : ℕ → ℕ → Offset → World → ℕ → ExtensionAnswer
+extensionOf rows cols o w k =
+    extensionAnswer (refusal (extensionChecks rows cols o w k accepted)) (extensionBy o (padsOf rows cols o w k))
+
+unfoldable pub boxedExtension : ℕ → ℕ → Offset → World → ℕ → BoundingBox → ExtensionAnswer
+boxedExtension rows cols o w k b =
+    extensionAnswer
+    (refusal (extensionChecks rows cols o w k (PLACE unless onWall (b .min) or PLACE unless onWall (b .max) or accepted)))
+    (extensionBy o (boxedPads b rows cols o (padsOf rows cols o w k)))
+
+-- the sides that the pads of a copy make
+abbrev pub newRows : ℕ → Pads → ℕ
+newRows rows p = (p .left + rows) + p .right
+
+abbrev pub newCols : ℕ → Pads → ℕ
+newCols cols p = (p .top + cols) + p .bottom
+
+-- what the cell (r, c) of the larger plane holds: old cell (i, j) stands at (i + left, j + top), a new cell holds the fill
+unfoldable pub copiedCell : {A : Type 0} → A → A → List A → ℕ → ℕ → Pads → ℕ → ℕ → A
+copiedCell none fill plane rows cols p r c =
+    pick (leb (p .left) r && ltb (r - p .left) rows && leb (p .top) c && ltb (c - p .top) cols)
+    (getD plane ((r - p .left) * cols + (c - p .top)) none)
+    fill
+
+unfoldable pub copied : {A : Type 0} → A → A → List A → ℕ → ℕ → Pads → List A
+copied none fill plane rows cols p =
+    tab (newRows rows p * newCols cols p) (λ k. copiedCell none fill plane rows cols p (k / newCols cols p) (k % newCols cols p))
+
+abbrev pub copyChecks : {A : Type 0} → List A → ℕ → ℕ → Pads → List A → Checks → Checks
+copyChecks plane rows cols p target more =
+    SHAPE unless boardSides rows cols
+    or SHAPE unless boardSides (newRows rows p) (newCols cols p)
+    or LENGTH unless hasLength plane (rows * cols)
+    or LENGTH unless hasLength target (newRows rows p * newCols cols p)
+    or more

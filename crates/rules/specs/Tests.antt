@@ -1,0 +1,59 @@
+-- Document 01, "Refusal numbers": the tests that the calls have in common. Each is true where the input is in order.
+use Prim.Native.Nat.{ℕ, _+_, _*_, _/_, _%_}
+use mathlib.Core.Bool.{Bool, true, false, _&&_}
+use mathlib.Core.List.{List}
+use lib.Dec.{leb, eqb}
+use lib.ListN.{length, getD}
+use lib.IntN.{_+ℤ_}
+use Rattle.base.specs.Counting.{every, within}
+use Rattle.base.specs.Whole.{withinZ, indexBelow}
+use Rattle.rules.specs.Bounds.{maxColours, maxSampleSide, maxBoardSide, maxTiles, minCoordinate, maxCoordinate, minOffset, maxOffset}
+use Rattle.rules.specs.declared.World.{World}
+use Rattle.rules.specs.declared.Offset.{Offset}
+
+-- SHAPE: the sides of a board, and of a sample
+unfoldable pub boardSides : ℕ → ℕ → Bool
+boardSides rows cols = within 1 maxBoardSide rows && within 1 maxBoardSide cols
+
+unfoldable pub sampleSides : ℕ → ℕ → Bool
+sampleSides rows cols = within 1 maxSampleSide rows && within 1 maxSampleSide cols
+
+-- LENGTH: a lent plane has exactly its length; a tile list is whole tiles, 1..=7,200 of them; so is a number of tiles given without a list
+unfoldable pub hasLength : {A : Type 0} → List A → ℕ → Bool
+hasLength plane n = eqb (length plane) n
+
+abbrev pub tilesIn : List ℕ → ℕ
+tilesIn tiles = length tiles / 9
+
+unfoldable pub tileNumber : ℕ → Bool
+tileNumber n = within 1 maxTiles n
+
+unfoldable pub wholeTiles : List ℕ → Bool
+wholeTiles tiles = eqb (length tiles % 9) 0 && tileNumber (tilesIn tiles)
+
+-- COUNT
+unfoldable pub colourCount : ℕ → Bool
+colourCount count = within 1 maxColours count
+
+-- CELL: no entry above most (sample and tile cells, weights, fit counts); each stored piece a bare cell or a colour of the count
+abbrev pub entryUpTo : List ℕ → ℕ → ℕ → Bool
+entryUpTo plane most k = leb (getD plane k 0) most
+
+unfoldable pub noneAbove : List ℕ → ℕ → Bool
+noneAbove plane most = every (length plane) (entryUpTo plane most)
+
+abbrev pub pieceStored : List ℕ → ℕ → ℕ → Bool
+pieceStored pieces count k = within 1 (count + 1) (getD pieces k 0)
+
+unfoldable pub piecesStored : List ℕ → ℕ → Bool
+piecesStored pieces count = every (length pieces) (pieceStored pieces count)
+
+-- PLACE: a coordinate or a box corner, an offset; and that the cell, index = coordinate + offset, lies on the board
+unfoldable pub onWall : World → Bool
+onWall w = withinZ minCoordinate maxCoordinate (w .0) && withinZ minCoordinate maxCoordinate (w .1)
+
+unfoldable pub offsetFits : Offset → Bool
+offsetFits o = withinZ minOffset maxOffset (o .0) && withinZ minOffset maxOffset (o .1)
+
+unfoldable pub onBoard : ℕ → ℕ → World → Offset → Bool
+onBoard rows cols w o = indexBelow rows (w .0 +ℤ o .0) && indexBelow cols (w .1 +ℤ o .1)
