@@ -98,16 +98,17 @@ pub fn colour_count(count: u32) -> bool
     }
 }
 
-fn and_too(so_far: bool, here: bool) -> bool
-    ensures { λ r. ⌜ r ≡ (so_far && here) ⌝ }
+// Both: made of one operation without a branch.
+fn and_too(sofar: bool, here: bool) -> bool
+    ensures { λ r. ⌜ r ≡ (sofar && here) ⌝ }
 {
-    so_far & here
+    sofar & here
 }
 
-fn byte_up_to(b: u8, most: u32) -> bool
-    ensures { λ r. ⌜ r ≡ leb b most ⌝ }
+fn byte_up_to(cell: u8, most: u32) -> bool
+    ensures { λ r. ⌜ r ≡ leb cell most ⌝ }
 {
-    b as u32 <= most
+    cell as u32 <= most
 }
 
 pub fn no_byte_above(plane: &[u8], most: u32) -> bool
@@ -117,6 +118,75 @@ pub fn no_byte_above(plane: &[u8], most: u32) -> bool
     let mut k = 0;
     while k < plane.len() {
         fine = and_too(fine, byte_up_to(plane[k], most));
+        k += 1;
+    }
+    fine
+}
+
+pub fn no_word_above(plane: &[u32], most: u32) -> bool
+    ensures { λ r. ⌜ r ≡ noneAbove (now (plane .entry)) most ⌝ }
+{
+    let mut fine = true;
+    let mut k = 0;
+    while k < plane.len() {
+        fine = and_too(fine, plane[k] <= most);
+        k += 1;
+    }
+    fine
+}
+
+fn piece_stored(piece: u32, most: u32) -> bool
+    ensures { λ r. ⌜ r ≡ within 1 most piece ⌝ }
+{
+    and_too(1 <= piece, piece <= most)
+}
+
+pub fn pieces_stored(pieces: &[u32], count: u32) -> bool
+    requires { ⌜ colourCount count ≡ true ⌝ }
+    ensures { λ r. ⌜ r ≡ piecesStored (now (pieces .entry)) count ⌝ }
+{
+    let most = count + 1;
+    let mut fine = true;
+    let mut k = 0;
+    while k < pieces.len() {
+        fine = and_too(fine, piece_stored(pieces[k], most));
+        k += 1;
+    }
+    fine
+}
+
+// Not a NaN and not below zero, which -0.0 is not.
+fn is_number(x: f64) -> bool
+    ensures { λ r. ⌜ r ≡ isNumber x ⌝ }
+{
+    0.0 <= x
+}
+
+fn is_finite(x: f64) -> bool
+    ensures { λ r. ⌜ r ≡ isFinite x ⌝ }
+{
+    and_too(0.0 <= x, x < f64::from_bits(0x7ff0_0000_0000_0000))
+}
+
+pub fn all_numbers(plane: &[f64]) -> bool
+    ensures { λ r. ⌜ r ≡ allAre isNumber (now (plane .entry)) ⌝ }
+{
+    let mut fine = true;
+    let mut k = 0;
+    while k < plane.len() {
+        fine = and_too(fine, is_number(plane[k]));
+        k += 1;
+    }
+    fine
+}
+
+pub fn all_finite(plane: &[f64]) -> bool
+    ensures { λ r. ⌜ r ≡ allAre isFinite (now (plane .entry)) ⌝ }
+{
+    let mut fine = true;
+    let mut k = 0;
+    while k < plane.len() {
+        fine = and_too(fine, is_finite(plane[k]));
         k += 1;
     }
     fine
