@@ -1,13 +1,13 @@
 //! Brings the text in, unchanged, from where GREEDYTILE_TEXT says it lies, and links the port if asked.
 //!
 //! Each file of the text is written to OUT_DIR under its own name (the `.txt` goes) with all its lines as they are. Where
-//! private functions or fields of it are wanted, ONE line is added at the end: an `include!` of src/reach/NAME.rs, which
+//! private functions or fields of it are wanted, ONE line is added at the end: an `include!` of src/oracle/reach/NAME.rs, which
 //! thereby stands in the same module as the text and sees its private items. OUT_DIR/text.rs has the `mod` lines.
 
 use std::path::{Path, PathBuf};
 use std::{env, fs};
 
-/// The text's modules, in the text's tree. The last is the name of a file in src/reach/, if the module has one.
+/// The text's modules, in the text's tree. The last is the name of a file in src/oracle/reach/, if the module has one.
 const FILES: [(&str, &str, Option<&str>); 10] = [
     ("math", "convert", None),
     ("spatial", "extension", None),
@@ -36,15 +36,15 @@ fn main() {
         // the text is not ours to tidy
         tree += &format!("#[allow(dead_code, missing_docs, clippy::all)]\npub mod {group} {{\n");
         for (_, name, reach) in FILES.iter().filter(|file| file.0 == group) {
-            let reach = reach.map(|reach| here.join(format!("src/reach/{reach}.rs")));
+            let reach = reach.map(|reach| here.join(format!("src/oracle/reach/{reach}.rs")));
             tree += &module(name, &bring(&text, &out, group, name, reach.as_deref(), &mut sum));
         }
         match group {
-            "math" => tree += &module("probability", &here.join("src/missing/probability.rs")),
+            "math" => tree += &module("probability", &here.join("src/oracle/missing/probability.rs")),
             "spatial" => tree += "pub use grid::GridState;\n",
             "io" => {
                 tree += &module("configuration", &bring(&text, &out, "io", "configuration", None, &mut sum));
-                tree += &module("visualization", &here.join("src/missing/visualization.rs"));
+                tree += &module("visualization", &here.join("src/oracle/missing/visualization.rs"));
             }
             _ => {}
         }

@@ -1,0 +1,179 @@
+-- Document 01's bench cases marked P: one statement on one table, shown by evaluating the definitions. An answer is written as a list of
+-- numbers: first the refusal's number, 0 where the call is accepted, then its values; a float is written by its bits.
+-- Assumes nothing.
+use Prim.Native.Nat.{ℕ, zero, suc, _+_, _*_, _/_, _%_}
+use mathlib.Core.Path.{_≡_, refl}
+use mathlib.Core.Bool.{Bool, true, false, _&&_}
+use lib.Dec.{eqb}
+use mathlib.Core.List.{List, [], _∷_, _++_, map}
+use lib.ListN.{length, getD, take, drop, replicate}
+use lib.IntN.{pos, negsuc, negℤ}
+use lib.Ieee.{Float, binary64, ofBits, toBits, ofInt, lt, le, add, mul, div}
+use Rattle.base.specs.Counting.{pick, every, some, sum, tally, first, within}
+use Rattle.base.specs.Tables.{tab, those, fold}
+use Rattle.base.specs.Refusal.{refusal}
+use Rattle.base.specs.Whole.{clip, withinZ}
+use Rattle.rules.specs.Tests.{boardSides, sampleSides, hasLength, tilesIn, tileNumber, wholeTiles, colourCount, noneAbove, piecesStored, onWall, offsetFits, onBoard}
+use Rattle.rules.specs.Places.{cellOf, spanOf, firstOf, lastOf, padBefore, padAfter, boxedBefore, boxedAfter, padsOf, boxedPads, extensionBy, extensionOf, boxedExtension}
+use Rattle.rules.specs.Sets.{has, bitsOf, coloursOf, membersOf}
+use Rattle.rules.specs.Tiles.{sampleCell, windowTile, rotated, reflected, turned, form, variant, sameTile, hasTile, withTile, distinct, extracted, extraction, storeAfter, storeWith}
+use Rattle.rules.specs.Grid.{cellNumber, flat, numberOf}
+use Rattle.rules.specs.Fit.{agrees, fitsTile, fitCount, hasFitting, allows, leftAfter, listing}
+use Rattle.rules.specs.Forced.{neighbour, admits, boundsFit, isForced, forcedThere, forcedRound, padded, positionsOf, forcedNeighbours, deadAt, deadEnd}
+use Rattle.rules.specs.Probabilities.{largestOf, totalOf, normalised}
+use Rattle.rules.specs.Board.{Job, Board, raised, lowered, recounted, laid, lifted, freshBoard, afterLay, afterLift}
+use Rattle.rules.specs.declared.World.{World}
+use Rattle.rules.specs.declared.Offset.{Offset}
+use Rattle.rules.specs.declared.BoundingBox.{BoundingBox}
+use Rattle.rules.specs.declared.GenerationBounds.the-variants.{Unbounded}
+use Rattle.rules.specs.declared.ForcedPosition.{ForcedPosition}
+use Rattle.rules.specs.declared.ForcedAnswer.{ForcedAnswer}
+use Rattle.rules.specs.declared.Listing.{Listing}
+use Rattle.rules.specs.declared.Listing.the-variants as Listing·
+use Rattle.rules.specs.declared.DeadEnd.{DeadEnd}
+use Rattle.rules.specs.declared.DeadEnd.the-variants as DeadEnd·
+use Rattle.rules.specs.declared.TileNumber.{TileNumber}
+use Rattle.rules.specs.declared.TileNumber.the-variants as TileNumber·
+use Rattle.rules.specs.declared.ExtensionAnswer.{ExtensionAnswer}
+use Rattle.rules.specs.declared.ExtensionAnswer.the-variants as ExtensionAnswer·
+
+-- ---- answers as lists of numbers
+
+abbrev listed : Listing → List ℕ
+listed (Listing·.Colours s) = 0 ∷ membersOf s
+listed (Listing·.Refused n) = n ∷ []
+
+abbrev tiles-of : TileNumber → List ℕ
+tiles-of (TileNumber·.Tiles n) = 0 ∷ n ∷ []
+tiles-of (TileNumber·.Refused n) = n ∷ []
+
+abbrev dead : DeadEnd → List ℕ
+dead (DeadEnd·.At k) = 0 ∷ k .0 ∷ k .1 ∷ []
+dead DeadEnd·.Nowhere = 0 ∷ []
+dead (DeadEnd·.Refused n) = n ∷ []
+
+-- left, right, top, bottom and the new offset, which is not negative in these cases
+abbrev padded-by : ExtensionAnswer → List ℕ
+padded-by (ExtensionAnswer·.Extension e) =
+    0 ∷ e .pads .left ∷ e .pads .right ∷ e .pads .top ∷ e .pads .bottom ∷ clip (e .offset .0) ∷ clip (e .offset .1) ∷ []
+padded-by (ExtensionAnswer·.Refused n) = n ∷ []
+
+-- row, column and colour of each place; the coordinates are not negative in these cases
+abbrev spots : List ForcedPosition → List ℕ
+spots [] = []
+spots (e ∷ l) = clip (e .coordinates .0) ∷ clip (e .coordinates .1) ∷ e .colour ∷ spots l
+
+abbrev forced : ForcedAnswer → List ℕ
+forced a = a .refused ∷ spots (a .found .entries)
+
+abbrev bits-of : List Float → List ℕ
+bits-of l = map (λ (x : Float). toBits binary64 x) l
+
+-- ---- what the cases start from
+
+abbrev at : ℕ → ℕ → World
+at r c = record { 0 = pos r; 1 = pos c }
+
+abbrev origin : Offset
+origin = record { 0 = pos 0; 1 = pos 0 }
+
+abbrev nine : List ℕ
+nine = 1 ∷ 2 ∷ 3 ∷ 4 ∷ 5 ∷ 6 ∷ 7 ∷ 8 ∷ 9 ∷ []
+
+-- so many bytes of store
+abbrev store : ℕ → List ℕ
+store n = replicate n 0
+
+-- "Chequer" is the two tiles of the listing program's sample
+abbrev chequer : List ℕ
+chequer = extracted (1 ∷ 2 ∷ 1 ∷ 2 ∷ 2 ∷ 1 ∷ 2 ∷ 1 ∷ 1 ∷ 2 ∷ 1 ∷ 2 ∷ []) 3 4 false false
+
+abbrev three : Job
+three = record { rows = 3; cols = 3; count = 2; tiles = chequer; offset = origin }
+
+abbrev fresh : Board
+fresh = freshBoard 9 2
+
+abbrev centre : Board
+centre = afterLay three fresh (at 1 1) 1
+
+abbrev corner : Board
+corner = afterLay three fresh (at 0 0) 1
+
+abbrev pair : Board
+pair = afterLay three corner (at 0 1) 1
+
+abbrev listing-on : Board → World → Listing
+listing-on b w = listing (b .pieces) 3 3 chequer 2 w origin
+
+abbrev box : BoundingBox
+box = record { min = record { 0 = negsuc 0; 1 = pos 0 }; max = at 9 9 }
+
+abbrev two64 : ℕ
+two64 = 0x4000_0000_0000_0000
+
+abbrev half64 : ℕ
+half64 = 0x3fe0_0000_0000_0000
+
+abbrev quarter64 : ℕ
+quarter64 = 0x3fd0_0000_0000_0000
+
+abbrev floats : List ℕ → List Float
+floats l = map (λ (n : ℕ). ofBits binary64 n) l
+
+-- ---- the table
+
+pub record Case : Type 0 where
+  pub got : List ℕ
+  pub due : List ℕ
+
+abbrev case : List ℕ → List ℕ → Case
+case got due = record { got = got; due = due }
+
+pub table : List Case
+table =
+    -- 123/456/789 turns to 741/852/963, mirrors to 321/654/987
+    case (rotated nine) (7 ∷ 4 ∷ 1 ∷ 8 ∷ 5 ∷ 2 ∷ 9 ∷ 6 ∷ 3 ∷ [])
+    ∷ case (reflected nine) (3 ∷ 2 ∷ 1 ∷ 6 ∷ 5 ∷ 4 ∷ 9 ∷ 8 ∷ 7 ∷ [])
+    -- both options give 8 tiles, rotations alone 4, reflections alone 2
+    ∷ case (tiles-of (extraction nine 3 3 9 true true (store 72))) (0 ∷ 8 ∷ [])
+    ∷ case (tiles-of (extraction nine 3 3 9 true false (store 72))) (0 ∷ 4 ∷ [])
+    ∷ case (tiles-of (extraction nine 3 3 9 false true (store 72))) (0 ∷ 2 ∷ [])
+    -- Sample 12/21 gives one tile 120/210/000
+    ∷ case (tiles-of (extraction (1 ∷ 2 ∷ 2 ∷ 1 ∷ []) 2 2 2 false false (store 9))) (0 ∷ 1 ∷ [])
+    ∷ case (storeAfter (1 ∷ 2 ∷ 2 ∷ 1 ∷ []) 2 2 2 false false (store 9)) (1 ∷ 2 ∷ 0 ∷ 2 ∷ 1 ∷ 0 ∷ 0 ∷ 0 ∷ 0 ∷ [])
+    -- Chequer, fresh 3x3: cell (0,0) lists 1 and 2
+    ∷ case (listed (listing-on fresh (at 0 0))) (0 ∷ 1 ∷ 2 ∷ [])
+    -- Then 1 laid at (1,1): (0,0) lists 1, (0,1) lists 2; forced neighbours in order are 1,2,1,2,2,1,2,1
+    ∷ case (listed (listing-on centre (at 0 0))) (0 ∷ 1 ∷ [])
+    ∷ case (listed (listing-on centre (at 0 1))) (0 ∷ 2 ∷ [])
+    ∷ case (forced (forcedNeighbours (centre .pieces) 3 3 chequer 2 (at 1 1) origin Unbounded))
+    (0 ∷ 0 ∷ 0 ∷ 1 ∷ 0 ∷ 1 ∷ 2 ∷ 0 ∷ 2 ∷ 1 ∷ 1 ∷ 0 ∷ 2 ∷ 1 ∷ 2 ∷ 2 ∷ 2 ∷ 0 ∷ 1 ∷ 2 ∷ 1 ∷ 2 ∷ 2 ∷ 2 ∷ 1 ∷ [])
+    -- Chequer 3x3, 1 at (0,0) and at (0,1): dead end (0,2), whose weight is 5
+    ∷ case (dead (deadEnd (pair .pieces) (pair .weights) 3 3 chequer 2)) (0 ∷ 0 ∷ 2 ∷ [])
+    ∷ case (getD (pair .weights) 2 0 ∷ []) (5 ∷ [])
+    -- Lay at (0,0) on 3x3: weights 4 4 2 / 4 4 2 / 2 2 2. Lifted: all 1
+    ∷ case (corner .weights) (4 ∷ 4 ∷ 2 ∷ 4 ∷ 4 ∷ 2 ∷ 2 ∷ 2 ∷ 2 ∷ [])
+    ∷ case (afterLift three corner (at 0 0) .weights) (1 ∷ 1 ∷ 1 ∷ 1 ∷ 1 ∷ 1 ∷ 1 ∷ 1 ∷ 1 ∷ [])
+    -- Grid 5x5, offset 0, place (0,0), radius 2: pads left 2, top 2, offset (2,2). Box (-1,0) to (9,9): left 1, top 0, offset (1,0)
+    ∷ case (padded-by (extensionOf 5 5 origin (at 0 0) 2)) (0 ∷ 2 ∷ 0 ∷ 2 ∷ 0 ∷ 2 ∷ 2 ∷ [])
+    ∷ case (padded-by (boxedExtension 5 5 origin (at 0 0) 2 box)) (0 ∷ 1 ∷ 0 ∷ 0 ∷ 0 ∷ 1 ∷ 0 ∷ [])
+    -- Probabilities 2.0, 2.0 give 0.5 each; four zeros give 0.25 each
+    ∷ case (bits-of (normalised (floats (two64 ∷ two64 ∷ [])))) (half64 ∷ half64 ∷ [])
+    ∷ case (bits-of (normalised (floats (0 ∷ 0 ∷ 0 ∷ 0 ∷ [])))) (quarter64 ∷ quarter64 ∷ quarter64 ∷ quarter64 ∷ [])
+    ∷ []
+
+-- a case holds where what is got is what is due
+unfoldable pub same : List ℕ → List ℕ → Bool
+same [] [] = true
+same (x ∷ l) (y ∷ m) = eqb x y && same l m
+same [] (y ∷ m) = false
+same (x ∷ l) [] = false
+
+unfoldable pub hold : List Case → Bool
+hold [] = true
+hold (x ∷ xs) = same (x .got) (x .due) && hold xs
+
+pub bench : hold table ≡ true
+unfolding hold same table every some sum tally first within tab those fold refusal withinZ boardSides sampleSides hasLength tileNumber wholeTiles colourCount noneAbove piecesStored onWall offsetFits onBoard cellOf spanOf firstOf lastOf padBefore padAfter boxedBefore boxedAfter padsOf boxedPads extensionBy extensionOf boxedExtension has bitsOf coloursOf sampleCell windowTile rotated reflected turned form variant sameTile hasTile withTile distinct extracted extraction storeAfter storeWith cellNumber flat numberOf agrees fitsTile fitCount hasFitting allows leftAfter listing neighbour admits boundsFit isForced forcedThere forcedRound padded positionsOf forcedNeighbours deadAt deadEnd largestOf totalOf normalised raised lowered recounted laid lifted freshBoard afterLay afterLift lt le add mul div ofBits ofInt toBits
+bench = refl
