@@ -1,8 +1,10 @@
 //! Brings the text in, unchanged, from where GREEDYTILE_TEXT says it lies, and links the port if asked.
 //!
-//! Each file of the text is written to OUT_DIR under its own name (the `.txt` goes) with all its lines as they are. Where
-//! private functions or fields of it are wanted, ONE line is added at the end: an `include!` of src/oracle/reach/NAME.rs, which
-//! thereby stands in the same module as the text and sees its private items. OUT_DIR/text.rs has the `mod` lines.
+//! Each file of the text is written to OUT_DIR (the `.txt` goes) with all its lines as they are. Where private functions
+//! or fields of it are wanted, ONE line is added at the end: an `include!` of src/oracle/reach/NAME.rs, which thereby
+//! stands in the same module as the text and sees its private items. OUT_DIR/text.rs has the `mod` lines.
+//!
+//! The package `uncached` is built by this file too: the same, but for the text's cache.
 
 use std::path::{Path, PathBuf};
 use std::{env, fs};
@@ -28,7 +30,11 @@ fn main() {
         stop("GREEDYTILE_TEXT is not set: it names the folder below which src/algorithm/bitset.rs.txt etc. lie");
     };
     let out = PathBuf::from(env::var_os("OUT_DIR").unwrap());
-    let here = PathBuf::from(env::var_os("CARGO_MANIFEST_DIR").unwrap());
+    let uncached = env::var_os("CARGO_FEATURE_UNCACHED").is_some();
+    let mut here = PathBuf::from(env::var_os("CARGO_MANIFEST_DIR").unwrap());
+    if uncached {
+        here.pop();
+    }
 
     let mut sum = Sum::new();
     let mut tree = String::new();
@@ -36,6 +42,10 @@ fn main() {
         // the text is not ours to tidy
         tree += &format!("#[allow(dead_code, missing_docs, clippy::all)]\npub mod {group} {{\n");
         for (_, name, reach) in FILES.iter().filter(|file| file.0 == group) {
+            if uncached && *name == "cache" {
+                tree += &module(name, &here.join("src/oracle/missing/cache.rs"));
+                continue;
+            }
             let reach = reach.map(|reach| here.join(format!("src/oracle/reach/{reach}.rs")));
             tree += &module(name, &bring(&text, &out, group, name, reach.as_deref(), &mut sum));
         }

@@ -1,1 +1,216 @@
-fn main(){}
+//! The driver: the oracle (the text) and the port on the same inputs.
+
+mod calls;
+mod compare;
+mod inputs;
+mod outcome;
+mod random;
+mod refusals;
+
+#[cfg(feature = "port")]
+mod port;
+#[cfg(feature = "port")]
+use port as side;
+
+#[cfg(not(feature = "port"))]
+mod model;
+#[cfg(not(feature = "port"))]
+use model as side;
+
+use compare::{Meddle, Named, Plan, Tally};
+use std::process::ExitCode;
+use std::time::Instant;
+
+const USE: &str = "differential: the text and the port on the same inputs
+
+  --seed N       reproduces a run (1)
+  --inputs N     the run's size: random inputs of a step of share 100 (1000)
+  --steps A,B    only these steps
+  --no-small     without the small inputs, all of them
+  --no-random    without random inputs inside the domain
+  --no-faults    without spoilt inputs
+  --list         names the steps and the mutants
+  --mutant NAME  disturbs the port's side of one comparison; a difference must show
+  --mutants      each mutant in turn; fails unless every one is seen";
+
+struct Options {
+    plan: Plan,
+    steps: Vec<String>,
+    mutant: Option<String>,
+    mutants: bool,
+    list: bool,
+}
+
+fn options() -> Result<Options, String> {
+    let plan = Plan { seed: 1, inputs: 1_000, meddle: None, first_only: false, small: true, random: true, faults: true };
+    let mut options = Options { plan, steps: Vec::new(), mutant: None, mutants: false, list: false };
+    let mut words = std::env::args().skip(1);
+    while let Some(word) = words.next() {
+        let mut value = || words.next().ok_or(format!("{word} wants a value"));
+        let number = |text: String| text.parse::<u64>().map_err(|_| format!("not a number: {text}"));
+        match word.as_str() {
+            "--seed" => options.plan.seed = number(value()?)?,
+            "--inputs" => options.plan.inputs = number(value()?)?,
+            "--steps" => options.steps = value()?.split(',').map(str::to_string).collect(),
+            "--no-small" => options.plan.small = false,
+            "--no-random" => options.plan.random = false,
+            "--no-faults" => options.plan.faults = false,
+            "--mutant" => options.mutant = Some(value()?),
+            "--mutants" => options.mutants = true,
+            "--list" => options.list = true,
+            _ => return Err(USE.into()),
+        }
+    }
+    Ok(options)
+}
+
+fn main() -> ExitCode {
+    let chosen = options().and_then(|options| {
+        let steps: Vec<Named> = compare::all()
+            .into_iter()
+            .filter(|step| options.steps.is_empty() || options.steps.iter().any(|name| name == step.name))
+            .collect();
+        if steps.is_empty() { Err("no such step; --list names them".into()) } else { Ok((options, steps)) }
+    });
+    let (options, steps) = match chosen {
+        Ok(chosen) => chosen,
+        Err(why) => {
+            eprintln!("{why}");
+            return ExitCode::from(2);
+        }
+    };
+    println!("{}; text {}", if cfg!(feature = "port") { "the port" } else { MODEL }, oracle::TEXT_SUM);
+    // a panic of either side is reported as a difference, or its place would be lost in the noise of the shrinking
+    std::panic::set_hook(Box::new(|panic| {
+        if std::env::var_os("RUST_BACKTRACE").is_some_and(|wanted| wanted == "full") {
+            eprintln!("{panic}");
+        }
+    }));
+    let fine = if options.list {
+        list(&steps)
+    } else if options.mutants {
+        mutants(&steps, &options.plan)
+    } else if let Some(name) = &options.mutant {
+        mutant(&steps, &options.plan, name)
+    } else {
+        compare_all(&steps, &options.plan)
+    };
+    if fine { ExitCode::SUCCESS } else { ExitCode::FAILURE }
+}
+
+const MODEL: &str = "built without the port: src/model.rs stands in its place, so this tries the driver and says nothing of the port";
+
+fn list(steps: &[Named]) -> bool {
+    println!("steps: {}", steps.iter().map(|step| step.name).collect::<Vec<_>>().join(" "));
+    println!("mutants: {}", meddles(steps).iter().map(|(name, ..)| name.as_str()).collect::<Vec<_>>().join(" "));
+    #[cfg(not(feature = "port"))]
+    println!("of the model: {}", model::Slip::ALL.map(|slip| format!("model:{slip:?}")).join(" "));
+    true
+}
+
+// ---- the comparison
+
+fn compare_all(steps: &[Named], plan: &Plan) -> bool {
+    println!("seed {}, size {}", plan.seed, plan.inputs);
+    println!();
+    println!("| step | small inputs | random | spoilt | refused, by number | values | differences | seconds |");
+    println!("|---|---:|---:|---:|---|---:|---:|---:|");
+    let mut all = Tally { name: "all", ..Tally::default() };
+    let mut reports = Vec::new();
+    for step in steps {
+        let tally = (step.run)(plan);
+        row(&tally);
+        all.small += tally.small;
+        all.random += tally.random;
+        all.spoilt += tally.spoilt;
+        all.values += tally.values;
+        all.differences += tally.differences;
+        all.seconds += tally.seconds;
+        (0..11).for_each(|number| all.refused[number] += tally.refused[number]);
+        reports.extend(tally.report);
+    }
+    row(&all);
+    println!();
+    println!("{} answers and {} values compared, {} differences", all.answers(), all.values, all.differences);
+    reports.iter().for_each(|report| println!("\n{report}"));
+    all.differences == 0
+}
+
+fn row(tally: &Tally) {
+    let refused: Vec<String> = (1..=10)
+        .filter(|&number| tally.refused[number] > 0)
+        .map(|number| format!("{number}: {}", tally.refused[number]))
+        .collect();
+    println!(
+        "| {} | {} | {} | {} | {} | {} | {} | {:.1} |",
+        tally.name,
+        tally.small,
+        tally.random,
+        tally.spoilt,
+        refused.join(", "),
+        tally.values,
+        tally.differences,
+        tally.seconds
+    );
+}
+
+// ---- mutants
+
+/// A mutant's name is the step's and the way in which its port's side is disturbed.
+fn meddles(steps: &[Named]) -> Vec<(String, &Named, Meddle)> {
+    let mut all = Vec::new();
+    for step in steps {
+        for (kind, meddle) in Meddle::ALL {
+            if meddle.applies(step.shows) {
+                all.push((format!("{}:{kind}", step.name), step, meddle));
+            }
+        }
+    }
+    all
+}
+
+fn with_meddle(plan: &Plan, meddle: Meddle) -> Plan {
+    // an input that is refused in any case shows nothing of a disturbed feed
+    let refusals = matches!(meddle, Meddle::Refusal | Meddle::RefusedWrite);
+    Plan { meddle: Some(meddle), faults: refusals, random: plan.random, ..plan.clone() }
+}
+
+fn mutants(steps: &[Named], plan: &Plan) -> bool {
+    let start = Instant::now();
+    let (mut seen, mut unseen) = (0, Vec::new());
+    for (name, step, meddle) in meddles(steps) {
+        // random inputs first: small ones are many, and some mutants show in few of them
+        let plan = Plan { first_only: true, small: false, ..with_meddle(plan, meddle) };
+        let mut tally = (step.run)(&plan);
+        if tally.differences == 0 {
+            tally = (step.run)(&Plan { small: true, random: false, faults: false, ..plan });
+        }
+        if tally.differences > 0 { seen += 1 } else { unseen.push(name) }
+    }
+    #[cfg(not(feature = "port"))]
+    for slip in model::Slip::ALL {
+        model::set_slip(Some(slip));
+        let plan = Plan { first_only: true, small: false, ..plan.clone() };
+        let by: Vec<&str> =
+            steps.iter().filter(|step| (step.run)(&plan).differences > 0).map(|step| step.name).collect();
+        println!("model:{slip:?} seen by {}", by.join(" "));
+        if by.is_empty() { unseen.push(format!("model:{slip:?}")) } else { seen += 1 }
+        model::set_slip(None);
+    }
+    println!("mutants: {seen} seen, {} not seen, in {:.0} s", unseen.len(), start.elapsed().as_secs_f64());
+    unseen.iter().for_each(|name| println!("not seen: {name}"));
+    unseen.is_empty()
+}
+
+fn mutant(steps: &[Named], plan: &Plan, wanted: &str) -> bool {
+    #[cfg(not(feature = "port"))]
+    if let Some(slip) = model::Slip::ALL.into_iter().find(|slip| wanted == format!("model:{slip:?}")) {
+        model::set_slip(Some(slip));
+        return compare_all(steps, plan);
+    }
+    let Some((_, step, meddle)) = meddles(steps).into_iter().find(|(name, ..)| name == wanted) else {
+        println!("no such mutant; --list names them");
+        return false;
+    };
+    compare_all(std::slice::from_ref(step), &with_meddle(plan, meddle))
+}

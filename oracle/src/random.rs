@@ -43,5 +43,5 @@ impl Random {
 
 /// A step's name as part of a seed.
 pub fn name_seed(name: &str) -> u64 {
-    name.bytes().fold(0, |sum, byte| sum * 31 + u64::from(byte))
+    name.bytes().fold(0, |sum, byte| sum.wrapping_mul(31).wrapping_add(u64::from(byte)))
 }

@@ -55,7 +55,6 @@ fn chequer_dead_end() {
     let mut job = Job::new(&chequer(), 2);
     let board = laid(&mut job, [3, 3], &[([0, 0], 1), ([0, 1], 1)]);
     assert_eq!(job.scan(&board, [0, 0], Cache::New), Some([0, 2]));
-    assert_eq!(job.scan_without_cache(&board, [0, 0]), Some([0, 2]));
     assert_eq!(board.weights()[2], 5);
 }
 

@@ -31,11 +31,14 @@ fn looked_up_keys_suffice_and_the_cache_changes_nothing() {
         let list = tiles(count, side);
         let mut text = Job::new(&list, usize::from(count));
         let mut ours = Job::on_demand(&list, usize::from(count));
+        // built without the cache
+        let mut bare = uncached::steps::Job::on_demand(&list, usize::from(count));
         let sides = [6, 7];
         let mut board = Board::fresh(sides, text.tiles());
         // pieces as the listings allow, in an order of leaps
         for k in 0..42 {
             let world = [(k * 5 % 42) / 7, (k * 5 % 42) % 7];
+            let before = uncached::steps::Board::with_pieces(&board.pieces(), sides);
             let listed = text.listing(&board, world, [0, 0], Cache::New);
             assert_eq!(listed, text.listing(&board, world, [0, 0], Cache::Kept));
             assert_eq!(listed, ours.listing(&board, world, [0, 0], Cache::New));
@@ -50,7 +53,15 @@ fn looked_up_keys_suffice_and_the_cache_changes_nothing() {
             let dead = text.scan(&board, [0, 0], Cache::New);
             assert_eq!(dead, text.scan(&board, [0, 0], Cache::Kept));
             assert_eq!(dead, ours.scan(&board, [0, 0], Cache::New));
-            assert_eq!(dead, ours.scan_without_cache(&board, [0, 0]));
+            let same = uncached::steps::Board::with_planes(
+                &board.pieces(),
+                &board.weights(),
+                &board.counts(),
+                sides,
+                text.tiles(),
+            );
+            assert_eq!(dead, bare.scan(&same, [0, 0], uncached::steps::Cache::New));
+            assert_eq!(forced, bare.forced(&before, world, [0, 0], uncached::steps::Cache::New));
         }
         let (hits, misses) = text.cache_use();
         assert!(hits > misses && misses > 0, "{hits} hits, {misses} misses");

@@ -145,6 +145,14 @@ weightChecks weights rows cols w o =
     or CELL unless noneAbove weights maxWeight
     or placeChecks rows cols w o accepted
 
+unfoldable pub afterRaise : List ℕ → ℕ → ℕ → World → Offset → List ℕ
+afterRaise weights rows cols w o =
+    unlessRefused (refusal (weightChecks weights rows cols w o)) (raised (flat rows cols) (numberOf cols w o) weights) weights
+
+unfoldable pub afterLower : List ℕ → ℕ → ℕ → World → Offset → List ℕ
+afterLower weights rows cols w o =
+    unlessRefused (refusal (weightChecks weights rows cols w o)) (lowered (flat rows cols) (numberOf cols w o) weights) weights
+
 abbrev pub recountChecks : List ℕ → List ℕ → ℕ → ℕ → List ℕ → ℕ → World → Offset → Checks
 recountChecks counts pieces rows cols tiles count w o =
     SHAPE unless boardSides rows cols
@@ -156,3 +164,10 @@ recountChecks counts pieces rows cols tiles count w o =
     or CELL unless piecesStored pieces count
     or CELL unless noneAbove counts (tilesIn tiles)
     or placeChecks rows cols w o accepted
+
+unfoldable pub afterRecount : List ℕ → List ℕ → ℕ → ℕ → List ℕ → ℕ → World → Offset → List ℕ
+afterRecount counts pieces rows cols tiles count w o =
+    unlessRefused
+    (refusal (recountChecks counts pieces rows cols tiles count w o))
+    (recounted (flat rows cols) tiles pieces (numberOf cols w o) counts)
+    counts

@@ -1,4 +1,5 @@
-//! The oracle: the text, compiled unchanged (build.rs says how), and one plain function a step over it.
+//! The oracle: the text, compiled unchanged (build.rs says how), and one plain function a step over it. The package
+//! `uncached` is made of the same files, without the text's cache.
 
 include!(concat!(env!("OUT_DIR"), "/text.rs"));
 

@@ -93,9 +93,21 @@ fn copy<T: Clone>(plane: &[T], sides: Sides, pads: [usize; 4], fill: T) -> Vec<T
 // ---- tiles and sets
 
 pub fn extract(sample: &[u8], sides: Sides, rotations: bool, reflections: bool) -> Vec<u8> {
-    let sample: Vec<usize> = sample.iter().map(|&cell| usize::from(cell)).collect();
-    let extractor = TileExtractor::extract_tiles(&array(&sample, sides), 3, rotations, reflections);
-    extractor.source_tiles().iter().flat_map(bytes_of).collect()
+    Sample::new(sample, sides).extract(rotations, reflections).source_tiles().iter().flat_map(bytes_of).collect()
+}
+
+/// A sample in the text's own form, so that its extraction can be timed alone.
+pub struct Sample(Array2<usize>);
+
+impl Sample {
+    pub fn new(sample: &[u8], sides: Sides) -> Self {
+        let sample: Vec<usize> = sample.iter().map(|&cell| usize::from(cell)).collect();
+        Self(array(&sample, sides))
+    }
+
+    pub fn extract(&self, rotations: bool, reflections: bool) -> TileExtractor {
+        TileExtractor::extract_tiles(&self.0, 3, rotations, reflections)
+    }
 }
 
 pub fn rotate(tile: &[u8; 9]) -> [u8; 9] {
@@ -221,8 +233,10 @@ impl Job {
 
     /// Gives an index made on demand the key of every pattern of a region that starts in the given spans.
     fn want(&mut self, grid: &GridState, rows: Range<usize>, cols: Range<usize>) {
-        let Some(wanted) = self.wanted.as_mut().filter(|wanted| wanted.open) else { return };
-        let count = self.step.unique_cell_count;
+        if self.wanted.as_ref().is_none_or(|wanted| !wanted.open) {
+            return;
+        }
+        let mut keys = Vec::new();
         for row in rows.start..rows.end.min(grid.rows()) {
             for col in cols.start..cols.end.min(grid.cols()) {
                 let mut pattern = [[0; 3]; 3];
@@ -232,31 +246,34 @@ impl Job {
                         *cell = grid.locked_tiles.get([row + i, col + j]).map_or(0, |&stored| stored as i32 - 1);
                     }
                 }
-                let key = convert_tile_to_membership_booleans(&pattern, count);
-                if wanted.seen.insert(bits_of_flags(&key)) {
-                    // the text's rule: the tile holds every type that the key flags; numbers from 1; no empty list
-                    let flagged = bits_of_flags(&key);
-                    let tiles: Vec<usize> =
-                        (0..wanted.held.len()).filter(|&n| flagged & !wanted.held[n] == 0).map(|n| n + 1).collect();
-                    if !tiles.is_empty() {
-                        self.step.tile_compatibility_rules.insert(key, tiles);
-                    }
-                }
+                let key = convert_tile_to_membership_booleans(&pattern, self.step.unique_cell_count);
+                keys.push(bits_of_flags(&key));
             }
         }
+        self.want_keys(keys);
     }
 
-    /// The keys of all 2^count patterns, by the rule above: to hold against the text's own index.
+    /// The keys of all 2^count patterns: to hold against the text's own index.
     pub fn want_all(&mut self) {
-        let Some(wanted) = &mut self.wanted else { return };
-        let count = self.step.unique_cell_count;
-        for flagged in 0..1u32 << count {
-            wanted.seen.insert(flagged);
-            let tiles: Vec<usize> =
-                (0..wanted.held.len()).filter(|&n| flagged & !wanted.held[n] == 0).map(|n| n + 1).collect();
-            if !tiles.is_empty() {
-                let key = (0..count).map(|t| (flagged >> t & 1) as u8).collect();
-                self.step.tile_compatibility_rules.insert(key, tiles);
+        self.want_keys(0..1 << self.step.unique_cell_count);
+    }
+
+    /// The keys of an index made on demand, each as a set of colours.
+    pub fn keys(&self) -> Vec<u32> {
+        self.wanted.iter().flat_map(|wanted| wanted.seen.iter().copied()).collect()
+    }
+
+    pub fn want_keys(&mut self, keys: impl IntoIterator<Item = u32>) {
+        let Some(wanted) = self.wanted.as_mut().filter(|wanted| wanted.open) else { return };
+        for flagged in keys {
+            if wanted.seen.insert(flagged) {
+                // the text's rule: the tile holds every type that the key flags; numbers from 1; no empty list
+                let tiles: Vec<usize> =
+                    (0..wanted.held.len()).filter(|&n| flagged & !wanted.held[n] == 0).map(|n| n + 1).collect();
+                if !tiles.is_empty() {
+                    let key = (0..self.step.unique_cell_count).map(|t| (flagged >> t & 1) as u8).collect();
+                    self.step.tile_compatibility_rules.insert(key, tiles);
+                }
             }
         }
     }
@@ -295,31 +312,12 @@ impl Job {
             .collect()
     }
 
-    /// Within one scan the text's cache serves from cell to cell, `New` or not; see `scan_without_cache`.
+    /// Within one scan the text's cache serves from cell to cell, new or not; `uncached` is built without it.
     pub fn scan(&mut self, board: &Board, offset: Place, cache: Cache) -> Option<Cell> {
         self.want_board(board);
         let mut new = ViableTilesCache::new();
         let cache = if cache == Cache::Kept { &mut self.cache } else { &mut new };
         check_for_contradiction(&board.grid, offset, &self.step, cache)
-    }
-
-    /// The text's scan with a new cache for every cell. The text has no such call, so its two tests and its loops are
-    /// said again here; the listing is its own.
-    pub fn scan_without_cache(&mut self, board: &Board, offset: Place) -> Option<Cell> {
-        self.want_board(board);
-        for row in 0..board.grid.rows() {
-            for col in 0..board.grid.cols() {
-                let laid = board.grid.locked_tiles.get([row, col]).copied().unwrap_or(0) > 1;
-                let weight = board.grid.adjacency_weights.get([row, col]).copied().unwrap_or(0);
-                if !laid && weight > 1 {
-                    let world = [signed(row) - offset[0], signed(col) - offset[1]];
-                    if self.listing(board, world, offset, Cache::New).is_empty() {
-                        return Some([row, col]);
-                    }
-                }
-            }
-        }
-        None
     }
 
     /// How many tiles fit the region that starts at a cell. The text only counts regions inside its grid, so it is asked
@@ -381,6 +379,8 @@ impl Job {
             }
         }
         self.want(&after, 0..after.rows(), 0..after.cols());
+        // the text widens its reach each time the same cell comes up
+        *board.grid.removal_count.get_mut(cell).unwrap() = 0;
         let _ = resolve_spatial_deadlock(
             DeadlockState {
                 grid_state: &mut board.grid,

@@ -1,0 +1,24 @@
+-- `fit::fit_count_at` meets its contract: the window is read, and its tiles counted. Assumes nothing.
+use Prim.Native.Nat.{ℕ, _+_, _-_, _*_, _/_, _%_, _<_, _≤_}
+use mathlib.Core.Path.{_≡_, refl, sym, _∙_, ap}
+use lib.ListN.{length, getD}
+use Rattle.rules.specs.Grid.{flat}
+use Rattle.rules.specs.Fit.{pattern}
+use Rattle.fit.proofs.Windows.{count-ext, read-is}
+use borrow.Author.Needs.{needs}
+use Rattle.fit.proofs.fit_count_at.Statement.{statement}
+use Rattle.fit.proofs.fit_count_at.Tie as tie
+
+window-at-requires : tie.Need-window-at-requires
+window-at-requires c κs = search needs
+
+fit-count-requires : tie.Need-fit-count-requires
+fit-count-requires c κs = search needs
+
+returns : tie.Need-returns
+returns c = let a = c .before .before .before .before .before .args in
+    let f : ℕ → ℕ = pattern (flat (a .rows) (a .cols)) (a .pieces .now) (a .row * a .cols + a .col) in
+    c .fit-count .ensures ∙ count-ext (a .tiles .now) _ f (read-is (c .before .before .window-at .result) f (c .before .before .window-at .ensures))
+
+pub fit-count-at-spec : {M : Type 1} → statement M
+fit-count-at-spec = tie.close (tie.spec window-at-requires fit-count-requires returns)

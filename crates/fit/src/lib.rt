@@ -1,0 +1,258 @@
+// Document 01, "Fit": how many tiles fit a region, and which colours fit a cell. The text's algorithm/feasibility.rs and the
+// listing of algorithm/selection.rs, by the direct fit test.
+ghost use mathlib.Core.Path.{_≡_};
+ghost use mathlib.Core.Bool.{Bool, true, false, not, _&&_};
+ghost use Prim.Native.Nat.{ℕ, _+_, _*_, _^_, _<_, _≤_};
+ghost use lib.Dec.{eqb};
+ghost use lib.ListN.{length, getD};
+ghost use Rattle.base.specs.Counting.{pick};
+ghost use Rattle.base.specs.Tables.{tab};
+ghost use Rattle.base.specs.Refusal.{refusal, accepted};
+ghost use Rattle.rules.specs.Grid.{flat, cellNumber, colourOn};
+ghost use Rattle.rules.specs.Bounds.{maxColours};
+ghost use Rattle.rules.specs.Sets.{has, bitsOf, setOf};
+ghost use Rattle.rules.specs.Fit.{pattern, agrees, fitsTile, fitCount, hasFitting, allows, windowOrder, lists, piecesChecks};
+ghost use Rattle.rules.specs.declared.Listing.the-variants.{Colours};
+ghost use Rattle.fit.specs.Ready.{Readable, Countable, Ready, OnGrid, Coloured};
+use rules::Cell;
+use rules::Listing;
+use rules::TileBitset;
+
+// The place that the cell has in each of its nine windows, in the text's order: the window centred on the cell, then those centred
+// up, left, right and down of it, then on the corners row by row.
+const WINDOW_ORDER: [usize; 9] = [4, 7, 5, 3, 1, 8, 6, 2, 0];
+
+// The refusal of pieces and tiles, 0 where there is none.
+pub fn pieces_refused(pieces: &[u32], rows: usize, cols: usize, tiles: &[u8], count: u32) -> u8
+    ensures { λ r. ⌜ r ≡ refusal (piecesChecks (now (pieces .entry)) rows cols (now (tiles .entry)) count accepted) ⌝ }
+{
+    if !checks::board_sides(rows, cols) {
+        return rules::SHAPE;
+    }
+    if !checks::words_have_length(pieces, checks::cells_of(rows, cols)) {
+        return rules::LENGTH;
+    }
+    if !checks::whole_tiles(tiles) {
+        return rules::LENGTH;
+    }
+    if !checks::colour_count(count) {
+        return rules::COUNT;
+    }
+    if !checks::no_byte_above(tiles, count) {
+        return rules::CELL;
+    }
+    if !checks::pieces_stored(pieces, count) {
+        return rules::CELL;
+    }
+    0
+}
+
+// The colour on the cell (r, c); 0 where it is bare or past the edge.
+fn colour_at(pieces: &[u32], rows: usize, cols: usize, r: usize, c: usize) -> u8
+    requires { ⌜ Readable (now pieces) rows cols ⌝ }
+    ensures { λ x. ⌜ x ≡ colourOn (now (pieces .entry)) (cellNumber rows cols r c) ⌝ }
+{
+    if r >= rows {
+        return 0;
+    }
+    if c >= cols {
+        return 0;
+    }
+    (pieces[r * cols + c] - 1) as u8
+}
+
+// The nine colours of the window that starts at (row, col).
+fn window_at(pieces: &[u32], rows: usize, cols: usize, row: usize, col: usize) -> [u8; 9]
+    requires { ⌜ Readable (now pieces) rows cols ⌝ }
+    requires { ⌜ OnGrid rows cols row col ⌝ }
+    ensures { λ w. ⌜ w ≡ tab 9 (pattern (flat rows cols) (now (pieces .entry)) (row * cols + col)) ⌝ }
+{
+    let mut window = [0u8; 9];
+    let mut i = 0;
+    while i < 9 {
+        window[i] = colour_at(pieces, rows, cols, row + i / 3, col + i % 3);
+        i += 1;
+    }
+    window
+}
+
+fn agree(colour: u8, cell: u8) -> bool
+    ensures { λ r. ⌜ r ≡ agrees colour cell ⌝ }
+{
+    if colour == 0 { true } else { colour == cell }
+}
+
+// Tile n fits the window; left at its first cell that disagrees.
+fn tile_fits(tiles: &[u8], n: usize, window: &[u8; 9]) -> bool
+    requires { ⌜ n * 9 + 9 ≤ length (now tiles) ⌝ }
+    ensures { λ r. ⌜ r ≡ fitsTile (now (tiles .entry)) (λ i. getD (now (window .entry)) i 0) n ⌝ }
+{
+    let at = n * 9;
+    let mut i = 0;
+    while i < 9 {
+        if !agree(window[i], tiles[at + i]) {
+            return false;
+        }
+        i += 1;
+    }
+    true
+}
+
+fn one_if(test: bool) -> u32
+    ensures { λ r. ⌜ r ≡ pick test 1 0 ⌝ }
+{
+    test as u32
+}
+
+fn fit_count(tiles: &[u8], window: &[u8; 9]) -> u32
+    requires { ⌜ length (now tiles) ≤ 64800 ⌝ }
+    ensures { λ r. ⌜ r ≡ fitCount (now (tiles .entry)) (λ i. getD (now (window .entry)) i 0) ⌝ }
+{
+    let last = tiles.len() / rules::TILE_CELLS;
+    let mut count = 0;
+    let mut n = 0;
+    while n < last {
+        count += one_if(tile_fits(tiles, n, window));
+        n += 1;
+    }
+    count
+}
+
+// The number of tiles that fit the region that starts at (row, col), for calls that have made the checks.
+pub fn fit_count_at(
+    pieces: &[u32],
+    rows: usize,
+    cols: usize,
+    tiles: &[u8],
+    row: usize,
+    col: usize,
+) -> u32
+    requires { ⌜ Countable (now pieces) rows cols (now tiles) ⌝ }
+    requires { ⌜ OnGrid rows cols row col ⌝ }
+    ensures { λ r. ⌜ r ≡ fitCount (now (tiles .entry)) (pattern (flat rows cols) (now (pieces .entry)) (row * cols + col)) ⌝ }
+{
+    let window = window_at(pieces, rows, cols, row, col);
+    fit_count(tiles, &window)
+}
+
+// What tile n offers at place q: its colour there where it fits the window, else 0, which is no colour.
+fn offered(tiles: &[u8], n: usize, window: &[u8; 9], q: usize) -> u32
+    requires { ⌜ n * 9 + 9 ≤ length (now tiles) ⌝ }
+    requires { ⌜ q < 9 ⌝ }
+    ensures { λ r. ⌜ r ≡ pick (fitsTile (now (tiles .entry)) (λ i. getD (now (window .entry)) i 0) n) (getD (now (tiles .entry)) (n * 9 + q) 0) 0 ⌝ }
+{
+    if !tile_fits(tiles, n, window) {
+        return 0;
+    }
+    tiles[n * 9 + q] as u32
+}
+
+// The set without colour t.
+fn without_colour(bits: u32, t: u32) -> u32
+    requires { ⌜ t ≤ maxColours ⌝ }
+    ensures { λ r. ⌜ ((n : ℕ) → n ≤ maxColours → bits < 2 ^ n → r ≡ bitsOf n (λ u. has bits u && not (eqb u t))) ⌝ }
+{
+    let there = sets::common_colours(bits, sets::with_colour(0, t));
+    bits - there
+}
+
+// Those of the colours left that a fitting tile has at place q. The tiles are walked until no colour is missing.
+fn window_colours(left: u32, tiles: &[u8], window: &[u8; 9], q: usize) -> u32
+    requires { ⌜ left < 2 ^ maxColours ⌝ }
+    requires { ⌜ Coloured (now tiles) ⌝ }
+    requires { ⌜ q < 9 ⌝ }
+    ensures { λ r. ⌜ ((n : ℕ) → n ≤ maxColours → left < 2 ^ n → r ≡ bitsOf n (λ t. has left t && hasFitting (now (tiles .entry)) (λ i. getD (now (window .entry)) i 0) q t)) ⌝ }
+{
+    let last = tiles.len() / rules::TILE_CELLS;
+    let mut missing = left;
+    let mut n = 0;
+    while n < last {
+        if missing == 0 {
+            return left;
+        }
+        missing = without_colour(missing, offered(tiles, n, window, q));
+        n += 1;
+    }
+    left - missing
+}
+
+// Those of the colours left that the window which has the cell at place q allows.
+fn narrowed(
+    left: u32,
+    pieces: &[u32],
+    rows: usize,
+    cols: usize,
+    tiles: &[u8],
+    row: usize,
+    col: usize,
+    q: usize,
+) -> u32
+    requires { ⌜ left < 2 ^ maxColours ⌝ }
+    requires { ⌜ Readable (now pieces) rows cols ⌝ }
+    requires { ⌜ OnGrid rows cols row col ⌝ }
+    requires { ⌜ Coloured (now tiles) ⌝ }
+    requires { ⌜ q < 9 ⌝ }
+    ensures { λ r. ⌜ ((n : ℕ) → n ≤ maxColours → left < 2 ^ n → r ≡ bitsOf n (λ t. has left t && allows (flat rows cols) (now (tiles .entry)) (now (pieces .entry)) (row * cols + col) t q)) ⌝ }
+{
+    if row < q / 3 {
+        return left;
+    }
+    if col < q % 3 {
+        return left;
+    }
+    let window = window_at(pieces, rows, cols, row - q / 3, col - q % 3);
+    window_colours(left, tiles, &window, q)
+}
+
+fn window_place(i: usize) -> usize
+    requires { ⌜ i < 9 ⌝ }
+    ensures { λ r. ⌜ r ≡ getD windowOrder i 0 ⌝ }
+{
+    WINDOW_ORDER[i]
+}
+
+// The colours listed at (row, col), as bits. The windows are left as soon as no colour is left.
+fn viable_colours(
+    pieces: &[u32],
+    rows: usize,
+    cols: usize,
+    tiles: &[u8],
+    count: u32,
+    row: usize,
+    col: usize,
+) -> u32
+    requires { ⌜ Ready (now pieces) rows cols (now tiles) count ⌝ }
+    requires { ⌜ OnGrid rows cols row col ⌝ }
+    ensures { λ r. ⌜ r ≡ bitsOf count (lists (flat rows cols) (now (tiles .entry)) (now (pieces .entry)) (row * cols + col)) ⌝ }
+{
+    let mut left = sets::all_colours(count);
+    let mut i = 0;
+    while i < 9 {
+        if left == 0 {
+            return 0;
+        }
+        left = narrowed(left, pieces, rows, cols, tiles, row, col, window_place(i));
+        i += 1;
+    }
+    left
+}
+
+// The colours listed at a cell, for calls that have made the checks: always a set, in the answer that the calls give too.
+pub fn viable_tiles_at(
+    pieces: &[u32],
+    rows: usize,
+    cols: usize,
+    tiles: &[u8],
+    count: u32,
+    cell: Cell,
+) -> Listing
+    requires { ⌜ Ready (now pieces) rows cols (now tiles) count ⌝ }
+    requires { ⌜ OnGrid rows cols (cell .0) (cell .1) ⌝ }
+    ensures { λ r. ⌜ r ≡ Colours (setOf count (lists (flat rows cols) (now (tiles .entry)) (now (pieces .entry)) (cell .0 * cols + cell .1))) ⌝ }
+{
+    let bits = viable_colours(pieces, rows, cols, tiles, count, cell.0, cell.1);
+    Listing::Colours(TileBitset {
+        bits: bits,
+        size: count,
+    })
+}

@@ -1,0 +1,33 @@
+-- Two results that meet the contract of a public call coincide.
+-- Assumes nothing.
+use Prim.Native.Nat.{ℕ}
+use mathlib.Core.Path.{_≡_}
+use mathlib.Core.Bool.{Bool}
+use Rattle.base.specs.Refusal.{accepted, refusal}
+use Rattle.base.proofs.Chain.{coincide}
+use Rattle.rules.specs.Tests.{onWall, offsetFits, onBoard}
+use Rattle.rules.specs.Places.{cellOf, regionSpans}
+use Rattle.rules.specs.Fit.{placeChecks}
+use Rattle.rules.specs.declared.World.{World}
+use Rattle.rules.specs.declared.Offset.{Offset}
+use Rattle.rules.specs.declared.Cell.{Cell}
+use Rattle.rules.specs.declared.SpanAnswer.{SpanAnswer}
+
+pub on-wall : (w : World) {r s : Bool} → r ≡ onWall w → s ≡ onWall w → r ≡ s
+on-wall w p q = coincide p q
+
+pub offset-fits : (o : Offset) {r s : Bool} → r ≡ offsetFits o → s ≡ offsetFits o → r ≡ s
+offset-fits o p q = coincide p q
+
+pub on-board : (rows cols : ℕ) (w : World) (o : Offset) {r s : Bool} → r ≡ onBoard rows cols w o → s ≡ onBoard rows cols w o → r ≡ s
+on-board rows cols w o p q = coincide p q
+
+pub cell-of : (w : World) (o : Offset) {r s : Cell} → r ≡ cellOf w o → s ≡ cellOf w o → r ≡ s
+cell-of w o p q = coincide p q
+
+pub place-refused : (rows cols : ℕ) (w : World) (o : Offset) {r s : ℕ}
+    → r ≡ refusal (placeChecks rows cols w o accepted) → s ≡ refusal (placeChecks rows cols w o accepted) → r ≡ s
+place-refused rows cols w o p q = coincide p q
+
+pub get-region-spans : (o : Offset) (w : World) (k : ℕ) {r s : SpanAnswer} → r ≡ regionSpans o w k → s ≡ regionSpans o w k → r ≡ s
+get-region-spans o w k p q = coincide p q

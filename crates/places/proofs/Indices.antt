@@ -1,0 +1,102 @@
+-- Laws of indices: what the sign test leaves of them, that a place on the board has a cell there, and that the span of radius k round
+-- a cell's row or column x runs from x - k (0 where k is larger) up to, not including, x + k + 1.
+-- Assumes nothing.
+use Prim.Native.Nat.{ℕ, zero, suc, _+_, _-_, _*_, _<_, _≤_}
+use mathlib.Core.Path.{_≡_, refl, sym, ap, _∙_}
+use mathlib.Core.Bool.{Bool, true, false, cond}
+use native.Mathlib.Omega.{arith}
+use lib.Dec.{T, leb, ltb}
+use lib.IntN.{ℤ, pos, negsuc, natAbs, subℕ, _+ℤ_, _-ℤ_}
+use lib.Signed.{ltZ, nonNeg}
+use borrow.Author.Tests.{le-leb, le-ltb, ltb-true, ltb-false}
+use Rattle.base.specs.Whole.{clip, indexBelow}
+use Rattle.base.specs.Refusal.{Checks, accepted, _unless_or_, refusal}
+use Rattle.base.proofs.Bools.{and-left, and-right, never}
+use Rattle.base.proofs.Numbers.{cell-lt}
+use Rattle.base.proofs.Chain.{passed}
+use Rattle.base.proofs.Signs.{index-clip, index-pos}
+use Rattle.rules.specs.Bounds.{maxRadius, PLACE}
+use Rattle.rules.specs.Tests.{onWall, offsetFits, onBoard}
+use Rattle.rules.specs.Places.{cellOf, spanOf, regionSpans}
+use Rattle.rules.specs.Grid.{numberOf}
+use Rattle.rules.specs.Fit.{placeChecks}
+use Rattle.rules.specs.declared.World.{World}
+use Rattle.rules.specs.declared.Offset.{Offset}
+use Rattle.rules.specs.declared.Span.{Span}
+use Rattle.rules.specs.declared.SpanAnswer.the-variants.{Spans}
+
+-- what the test `z < 0` leaves of `indexBelow`
+pub below-index : (n : ℕ) (z : ℤ) → ltZ z (pos 0) ≡ true → false ≡ indexBelow n z
+below-index n (pos z) e = never (ltb z 0) e (le-ltb z 0 (omega arith))
+below-index n (negsuc z) e = refl
+
+pub natAbs-index : (n : ℕ) (z : ℤ) → T (nonNeg z) → ltb (natAbs z) n ≡ indexBelow n z
+natAbs-index n (pos z) t = refl
+natAbs-index n (negsuc z) t = absurd t
+
+-- the span of radius k round x
+abbrev pub spanRound : ℕ → ℕ → Span
+spanRound x k = record { 0 = x - k; 1 = x + k + 1 }
+
+clip-sub : (x k : ℕ) → clip (subℕ x k) ≡ x - k
+clip-sub x k = pick-clip (ltb x k) (λ e. ltb-true x k e)
+  where
+    pick-clip : (t : Bool) → (t ≡ true → x < k) → clip (cond t (negsuc (k - suc x)) (pos (x - k))) ≡ x - k
+    pick-clip true h = let g : x < k = h refl in omega arith
+    pick-clip false h = refl
+
+pub span-round : (x k : ℕ) → spanOf (pos x) k ≡ spanRound x k
+unfolding spanOf
+span-round x zero = let e : x + 0 ≡ x - 0 = omega arith in ap (λ (n : ℕ). record { 0 = n; 1 = x + 0 + 1 }) e
+span-round x (suc k) = ap (λ (n : ℕ). record { 0 = n; 1 = x + suc k + 1 }) (clip-sub x (suc k))
+
+-- what a place that was not refused gives
+pub record Placed (rows cols : ℕ) (w : World) (o : Offset) : Type 0 where
+  pub walled : onWall w ≡ true
+  pub fitting : offsetFits o ≡ true
+  pub boarded : onBoard rows cols w o ≡ true
+
+pub placed : (rows cols : ℕ) (w : World) (o : Offset) → refusal (placeChecks rows cols w o accepted) ≡ 0 → Placed rows cols w o
+placed rows cols w o e =
+    let p = passed 5 (onWall w) (PLACE unless offsetFits o or PLACE unless onBoard rows cols w o or accepted) e in
+    let q = passed 5 (offsetFits o) (PLACE unless onBoard rows cols w o or accepted) (p .1) in
+    let r = passed 5 (onBoard rows cols w o) accepted (q .1) in
+    record { walled = p .0; fitting = q .0; boarded = r .0 }
+
+module _ (rows cols : ℕ) (w : World) (o : Offset) (h : onBoard rows cols w o ≡ true) where
+  row-on : indexBelow rows (w .0 +ℤ o .0) ≡ true
+  unfolding onBoard
+  row-on = and-left (indexBelow rows (w .0 +ℤ o .0)) (indexBelow cols (w .1 +ℤ o .1)) h
+
+  col-on : indexBelow cols (w .1 +ℤ o .1) ≡ true
+  unfolding onBoard
+  col-on = and-right (indexBelow rows (w .0 +ℤ o .0)) (indexBelow cols (w .1 +ℤ o .1)) h
+
+  pub row-below : cellOf w o .0 < rows
+  unfolding cellOf
+  row-below = index-clip rows (w .0 +ℤ o .0) row-on
+
+  pub col-below : cellOf w o .1 < cols
+  unfolding cellOf
+  col-below = index-clip cols (w .1 +ℤ o .1) col-on
+
+  pub number-below : numberOf cols w o < rows * cols
+  unfolding numberOf
+  number-below = cell-lt row-below col-below
+
+  -- the spans round it
+  pub row-span : (k : ℕ) → spanOf (w .0 +ℤ o .0) k ≡ spanRound (cellOf w o .0) k
+  unfolding cellOf
+  row-span k = ap (λ (x : ℤ). spanOf x k) (index-pos rows (w .0 +ℤ o .0) row-on) ∙ span-round (clip (w .0 +ℤ o .0)) k
+
+  pub col-span : (k : ℕ) → spanOf (w .1 +ℤ o .1) k ≡ spanRound (cellOf w o .1) k
+  unfolding cellOf
+  col-span k = ap (λ (x : ℤ). spanOf x k) (index-pos cols (w .1 +ℤ o .1) col-on) ∙ span-round (clip (w .1 +ℤ o .1)) k
+
+-- so the spans round a place that was not refused are given
+pub spans-given : (rows cols : ℕ) (w : World) (o : Offset) (k : ℕ) → Placed rows cols w o → k ≤ maxRadius
+    → regionSpans o w k ≡ Spans (spanRound (cellOf w o .0) k) (spanRound (cellOf w o .1) k)
+unfolding regionSpans refusal
+spans-given rows cols w o k p h =
+    rw
+    (le-leb k maxRadius h, p .walled, p .fitting, row-span rows cols w o (p .boarded) k, col-span rows cols w o (p .boarded) k)

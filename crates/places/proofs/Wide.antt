@@ -1,0 +1,58 @@
+-- Signed arithmetic at any width: `Reads w n z A` says that the bits n of width w stand for the whole number z, and that -A ≤ z < A.
+-- Sums and differences add the bounds, and whether the result fits is then a comparison of two literals. The coordinates are of 32
+-- bits, and their sums are taken in 64.
+-- Assumes nothing.
+use Prim.Native.Nat.{ℕ, zero, suc, _+_, _-_, _^_, _<_, _≤_}
+use mathlib.Core.Path.{_≡_, refl, sym, ap, _∙_}
+use mathlib.Core.Bool.{Bool, true, false}
+use native.Mathlib.Nat.{lt-of-lt-of-le}
+use native.Mathlib.Omega.{arith}
+use lib.Dec.{T, leb, leb→le}
+use lib.IntN.{ℤ, pos, negsuc, negℤ, _+ℤ_, _-ℤ_}
+use lib.Signed.{mag}
+use mir.Syntax.{Width, w32, w64}
+use mir.Val.{SFits, toZ, ofZ, hbits}
+use mir.Facts.{toZ-ofZ, toZ-pos, sfits-widen}
+use Rattle.base.proofs.Signs.{add-in, neg-in}
+
+pub record Reads (w : Width) (n : ℕ) (z : ℤ) (A : ℕ) : Type 0 where
+  pub is : toZ w n ≡ z
+  pub low : mag z < A
+
+pub small : (w : Width) {z : ℤ} {A : ℕ} → mag z < A → T (leb A (2 ^ hbits w)) → SFits w z
+small w {z} {A} h t = record { sfits = lt-of-lt-of-le h (leb→le A (2 ^ hbits w) t) }
+
+-- a number of 32 bits after its cast to 64
+pub widened : {z : ℤ} → SFits w32 z → Reads w64 (ofZ w64 (toZ w32 (ofZ w32 z))) z (2 ^ 31)
+widened {z} f = record { is = rw (toZ-ofZ f) (toZ-ofZ (sfits-widen tt f)); low = f .sfits }
+
+-- an unsigned number after its cast
+pub counted : (w : Width) {n A : ℕ} → n < A → T (leb A (2 ^ hbits w)) → Reads w n (pos n) A
+counted w {n} {A} h t = record { is = toZ-pos w (lt-of-lt-of-le h (leb→le A (2 ^ hbits w) t)); low = h }
+
+-- the bits of a sum and of a difference
+abbrev pub addB : Width → ℕ → ℕ → ℕ
+addB w n m = ofZ w (toZ w n +ℤ toZ w m)
+
+abbrev pub subB : Width → ℕ → ℕ → ℕ
+subB w n m = ofZ w (toZ w n -ℤ toZ w m)
+
+module _ {w : Width} {n m : ℕ} {z y : ℤ} {A B : ℕ} (p : Reads w n z A) (q : Reads w m y B) where
+  pub add-fits : T (leb (A + B) (2 ^ hbits w)) → SFits w (toZ w n +ℤ toZ w m)
+  add-fits t = rw (p .is, q .is) (small w (add-in z y (p .low) (q .low)) t)
+
+  pub sub-fits : T (leb (A + (B + 1)) (2 ^ hbits w)) → SFits w (toZ w n -ℤ toZ w m)
+  sub-fits t = rw (p .is, q .is) (small w (add-in z (negℤ y) (p .low) (neg-in y (q .low))) t)
+
+  pub added : T (leb (A + B) (2 ^ hbits w)) → Reads w (addB w n m) (z +ℤ y) (A + B)
+  added t = record { is = toZ-ofZ (add-fits t) ∙ rw (p .is, q .is); low = add-in z y (p .low) (q .low) }
+
+  pub subbed : T (leb (A + (B + 1)) (2 ^ hbits w)) → Reads w (subB w n m) (z -ℤ y) (A + (B + 1))
+  subbed t = record { is = toZ-ofZ (sub-fits t) ∙ rw (p .is, q .is); low = add-in z (negℤ y) (p .low) (neg-in y (q .low)) }
+
+-- a signed number that is handed on to a call, and two of them added
+pub same : {z : ℤ} → mag z < 2 ^ 31 → toZ w32 (ofZ w32 z) ≡ z
+same h = toZ-ofZ (record { sfits = h })
+
+pub sum-same : (x y : ℤ) → mag x < 2 ^ 31 → mag y < 2 ^ 31 → toZ w32 (ofZ w32 x) +ℤ toZ w32 (ofZ w32 y) ≡ x +ℤ y
+sum-same x y h k = rw (same {z = x} h, same {z = y} k)

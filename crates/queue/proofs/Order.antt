@@ -1,0 +1,79 @@
+-- What a reader may lean on: the queue is first in, first out, over every run of calls, refused ones included; adding puts the new
+-- places at the back, in order, and skips those that are queued; no place is queued twice.
+-- Assumes nothing.
+use Prim.Native.Nat.{ℕ, zero, suc, _≤_}
+use mathlib.Core.Path.{_≡_, refl, sym, _∙_, ap}
+use mathlib.Core.Bool.{Bool, true, false, not, _&&_}
+use mathlib.Core.List.{List, [], _∷_, _++_, append-nil, append-assoc}
+use lib.ListN.{length, drop}
+use Rattle.base.specs.Tables.{fold}
+use Rattle.base.specs.Refusal.{refusal, unlessRefused}
+use Rattle.base.proofs.Bools.{by-test, and-left, and-right, and-both, not-is-true}
+use Rattle.rules.specs.Answers.{nextAnswer}
+use Rattle.rules.specs.Forced.{queued, offered, queueOf, isQueued, withPosition, withPositions, queueChecks, addChecks, takenFrom, grownBy}
+use Rattle.rules.specs.declared.ForcedPosition.{ForcedPosition}
+use Rattle.rules.specs.declared.ForcedPositions.{ForcedPositions}
+use Rattle.rules.specs.declared.ForcedPipeline.{ForcedPipeline}
+use Rattle.queue.specs.Runs.{fresh, noneTwice, Call, adding, taking, left, comesIn, goesOut, positionIn, leftAfter, allIn, allOut}
+use Rattle.queue.proofs.Entries.{queued-of}
+use Rattle.queue.proofs.Growth.{with-old, with-new, with-one, with-none}
+
+-- the new places stand behind the old ones, in the order in which they were offered
+pub appended : (l more : List ForcedPosition) → withPositions l more ≡ l ++ fresh l more
+unfolding fresh
+appended l [] = with-none l ∙ sym (append-nil l)
+appended l (e ∷ more) =
+    with-one l e more
+    ∙ by-test (isQueued (e .coordinates) l)
+    (λ h. rw (with-old l e h, h) (appended l more))
+    (λ h. rw (with-new l e h, h) (appended (l ++ (e ∷ [])) more ∙ append-assoc l (e ∷ []) (fresh (l ++ (e ∷ [])) more)))
+
+-- no place is queued twice
+twice-last : (before l : List ForcedPosition) (e : ForcedPosition) → noneTwice before l ≡ true → isQueued (e .coordinates) (before ++ l) ≡ false → noneTwice before (l ++ (e ∷ [])) ≡ true
+unfolding noneTwice
+twice-last before [] e h k = and-both (not (isQueued (e .coordinates) before)) true (not-is-true (isQueued (e .coordinates) before) (rw append-nil at k)) refl
+twice-last before (x ∷ l) e h k =
+    and-both (not (isQueued (x .coordinates) before)) (noneTwice (before ++ (x ∷ [])) (l ++ (e ∷ []))) (and-left (not (isQueued (x .coordinates) before)) (noneTwice (before ++ (x ∷ [])) l) h)
+    (twice-last (before ++ (x ∷ [])) l e (and-right (not (isQueued (x .coordinates) before)) (noneTwice (before ++ (x ∷ [])) l) h) (rw append-assoc k))
+
+pub once : (l more : List ForcedPosition) → noneTwice [] l ≡ true → noneTwice [] (withPositions l more) ≡ true
+once l [] h = rw (with-none l) h
+once l (e ∷ more) h =
+    rw (with-one l e more)
+    (by-test (isQueued (e .coordinates) l)
+    (λ k. rw (with-old l e k) (once l more h))
+    (λ k. rw (with-new l e k) (once (l ++ (e ∷ [])) more (twice-last [] l e h k))))
+
+-- one call: what was queued, and then what comes in, is what goes out, and then what is left
+first-out : (l : List ForcedPosition) → l ++ [] ≡ positionIn (nextAnswer 0 l) ++ drop 1 l
+first-out [] = refl
+first-out (e ∷ l) = append-nil (e ∷ l)
+
+taking-keeps : (q : ForcedPipeline) (n : ℕ) → n ≡ refusal (queueChecks q) → queued q ++ comesIn q taking ≡ goesOut q taking ++ queued (left q taking)
+unfolding comesIn goesOut left takenFrom
+taking-keeps q zero e = rw (sym e) (first-out (queued q) ∙ ap (λ (l : List ForcedPosition). positionIn (nextAnswer 0 (queued q)) ++ l) (sym (queued-of (drop 1 (queued q)))))
+taking-keeps q (suc n) e = rw (sym e) (append-nil (queued q))
+
+adding-keeps : (q : ForcedPipeline) (p : ForcedPositions) (n : ℕ) → n ≡ refusal (addChecks q p) → queued q ++ comesIn q (adding p) ≡ goesOut q (adding p) ++ queued (left q (adding p))
+unfolding comesIn goesOut left grownBy
+adding-keeps q p zero e = rw (sym e) (sym (appended (queued q) (offered p)) ∙ sym (queued-of (withPositions (queued q) (offered p))))
+adding-keeps q p (suc n) e = rw (sym e) (append-nil (queued q))
+
+keeps : (q : ForcedPipeline) (c : Call) → queued q ++ comesIn q c ≡ goesOut q c ++ queued (left q c)
+keeps q (adding p) = adding-keeps q p (refusal (addChecks q p)) refl
+keeps q taking = taking-keeps q (refusal (queueChecks q)) refl
+
+-- first in, first out: over a run, what was queued and then all that comes in is, in this order, all that goes out and then what is left
+pub first-in-first-out : (q : ForcedPipeline) (cs : List Call) → queued q ++ allIn q cs ≡ allOut q cs ++ queued (leftAfter q cs)
+unfolding allIn allOut leftAfter
+first-in-first-out q [] = append-nil (queued q)
+first-in-first-out q (c ∷ cs) =
+    sym (append-assoc (queued q) (comesIn q c) (allIn (left q c) cs))
+    ∙ ap (λ (l : List ForcedPosition). l ++ allIn (left q c) cs) (keeps q c)
+    ∙ append-assoc (goesOut q c) (queued (left q c)) (allIn (left q c) cs)
+    ∙ ap (λ (l : List ForcedPosition). goesOut q c ++ l) (first-in-first-out (left q c) cs)
+    ∙ sym (append-assoc (goesOut q c) (allOut (left q c) cs) (queued (leftAfter (left q c) cs)))
+
+-- from a new queue on: what has gone out, and then what still waits, is what has come in
+pub from-new : (cs : List Call) → allIn (queueOf []) cs ≡ allOut (queueOf []) cs ++ queued (leftAfter (queueOf []) cs)
+from-new cs = ap (λ (l : List ForcedPosition). l ++ allIn (queueOf []) cs) (sym (queued-of [])) ∙ first-in-first-out (queueOf []) cs

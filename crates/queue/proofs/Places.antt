@@ -1,0 +1,80 @@
+-- Laws of places: that the machine's equality of 32 bits is equality of whole numbers, and what one turn of a loop over the first n
+-- entries of an array leaves to be asked: the loop's list is its entry i and then the list from i + 1 on.
+-- Assumes nothing.
+use Prim.Native.Nat.{ℕ, zero, suc, _+_, _<_, _≤_}
+use mathlib.Core.Path.{_≡_, refl, sym, _∙_, ap, subst}
+use mathlib.Core.Bool.{Bool, true, false, _&&_, _||_}
+use mathlib.Core.List.{List, [], _∷_}
+use native.Mathlib.Numerals.{add-one}
+use native.Mathlib.Omega.{arith}
+use lib.Dec.{eqb}
+use lib.IntN.{ℤ, pos, negsuc}
+use lib.ListN.{length, getD, take, drop, length-take, drop-of-length-le}
+use lib.Seq.{slice-cons}
+use mir.Syntax.{w32}
+use mir.Val.{SFits, toZ, ofZ}
+use mir.Facts.{toZ-ofZ}
+use borrow.Author.Tests.{eq-eqb, eqb-true, ne-eqb}
+use Rattle.base.specs.Whole.{eqZ}
+use Rattle.base.proofs.Bools.{same-test, by-test, never}
+use Rattle.rules.specs.Tests.{onWall}
+use Rattle.rules.specs.Forced.{samePlace, isQueued, allOnWall}
+use Rattle.rules.specs.declared.World.{World}
+use Rattle.rules.specs.declared.ForcedPosition.{ForcedPosition}
+
+eqZ-is : (a b : ℤ) → a ≡ b → eqZ a b ≡ true
+eqZ-is (pos a) b e = subst (λ (z : ℤ). eqZ (pos a) z ≡ true) e (eq-eqb a a refl)
+eqZ-is (negsuc a) b e = subst (λ (z : ℤ). eqZ (negsuc a) z ≡ true) e (eq-eqb a a refl)
+
+eqZ-true : (a b : ℤ) → eqZ a b ≡ true → a ≡ b
+eqZ-true (pos a) (pos b) e = ap pos (eqb-true a b e)
+eqZ-true (pos a) (negsuc b) e = never false e refl
+eqZ-true (negsuc a) (pos b) e = never false e refl
+eqZ-true (negsuc a) (negsuc b) e = ap negsuc (eqb-true a b e)
+
+-- two numbers that fit are equal exactly if their bits are
+module _ {a b : ℤ} (f : SFits w32 a) (g : SFits w32 b) where
+  pub bits-eqb : eqb (ofZ w32 a) (ofZ w32 b) ≡ eqZ a b
+  bits-eqb =
+      same-test (eqb (ofZ w32 a) (ofZ w32 b)) (eqZ a b)
+      (λ e. eqZ-is a b (sym (toZ-ofZ f) ∙ ap (toZ w32) (eqb-true (ofZ w32 a) (ofZ w32 b) e) ∙ toZ-ofZ g))
+      (λ e. eq-eqb (ofZ w32 a) (ofZ w32 b) (ap (ofZ w32) (eqZ-true a b e)))
+
+  pub bits-same : ofZ w32 a ≡ ofZ w32 b → eqZ a b ≡ true
+  bits-same e = sym bits-eqb ∙ eq-eqb (ofZ w32 a) (ofZ w32 b) e
+
+  pub bits-other : (ofZ w32 a ≡ ofZ w32 b → ⊥) → eqZ a b ≡ false
+  bits-other h = sym bits-eqb ∙ ne-eqb (ofZ w32 a) (ofZ w32 b) h
+
+-- what a loop over the first n entries has before it at turn i
+module _ (es : List ForcedPosition) (n i : ℕ) where
+  pub still : (d : ForcedPosition) → i < n → n ≤ length es → drop i (take n es) ≡ getD es i d ∷ drop (i + 1) (take n es)
+  still d h k = rw add-one (slice-cons i n es d h k)
+
+  pub none-left : n ≤ i → drop i (take n es) ≡ []
+  none-left h = drop-of-length-le (take n es) {i = i} (simp length-take (omega arith))
+
+-- the search
+pub queued-at : (w : World) (e : ForcedPosition) (l : List ForcedPosition) → samePlace (e .coordinates) w ≡ true → isQueued w (e ∷ l) ≡ true
+unfolding isQueued
+queued-at w e l h = rw h
+
+pub queued-not-at : (w : World) (e : ForcedPosition) (l : List ForcedPosition) → samePlace (e .coordinates) w ≡ false → isQueued w (e ∷ l) ≡ isQueued w l
+unfolding isQueued
+queued-not-at w e l h = rw h
+
+pub queued-nowhere : (w : World) → isQueued w [] ≡ false
+unfolding isQueued
+queued-nowhere w = refl
+
+-- the check
+module _ (es : List ForcedPosition) (n i : ℕ) where
+  pub wall-turn : (d : ForcedPosition) → i < n → n ≤ length es → (fine here : Bool) → here ≡ onWall (getD es i d .coordinates) → (fine && allOnWall (drop i (take n es))) ≡ allOnWall (take n es) → ((fine && here) && allOnWall (drop (i + 1) (take n es))) ≡ allOnWall (take n es)
+  unfolding allOnWall
+  wall-turn d h k true here e inv = rw e (ap allOnWall (sym (still es n i d h k)) ∙ inv)
+  wall-turn d h k false here e inv = inv
+
+  pub wall-end : (fine : Bool) → n ≤ i → (fine && allOnWall (drop i (take n es))) ≡ allOnWall (take n es) → fine ≡ allOnWall (take n es)
+  unfolding allOnWall
+  wall-end true h inv = ap allOnWall (sym (none-left es n i h)) ∙ inv
+  wall-end false h inv = inv

@@ -1,0 +1,2 @@
+pub mod Unchecked
+pub mod Runs

@@ -1,0 +1,56 @@
+-- Runs of calls on one queue, for the statement that it is first in, first out: what goes in, what comes out, what is left.
+use Prim.Native.Nat.{ℕ}
+use mathlib.Core.Bool.{Bool, true, not, _&&_}
+use mathlib.Core.List.{List, [], _∷_, _++_}
+use Rattle.base.specs.Counting.{pick}
+use Rattle.base.specs.Refusal.{refusal, unlessRefused}
+use Rattle.rules.specs.Forced.{queued, offered, isQueued, addChecks, grownBy, takenFrom}
+use Rattle.rules.specs.declared.ForcedPosition.{ForcedPosition}
+use Rattle.rules.specs.declared.ForcedPositions.{ForcedPositions}
+use Rattle.rules.specs.declared.ForcedPipeline.{ForcedPipeline}
+use Rattle.rules.specs.declared.Next.{Next}
+use Rattle.rules.specs.declared.Next.the-variants.{Taken, Nothing, Refused}
+
+-- of the positions offered those whose place is not queued by then, in order
+unfoldable pub fresh : List ForcedPosition → List ForcedPosition → List ForcedPosition
+fresh l [] = []
+fresh l (e ∷ more) = pick (isQueued (e .coordinates) l) (fresh l more) (e ∷ fresh (l ++ (e ∷ [])) more)
+
+-- no place stands in l twice, nor in l and among those before it
+unfoldable pub noneTwice : List ForcedPosition → List ForcedPosition → Bool
+noneTwice before [] = true
+noneTwice before (e ∷ l) = not (isQueued (e .coordinates) before) && noneTwice (before ++ (e ∷ [])) l
+
+pub data Call : Type 0 where
+  adding : ForcedPositions → Call
+  taking : Call
+
+unfoldable pub left : ForcedPipeline → Call → ForcedPipeline
+left q (adding p) = grownBy q p .queue
+left q taking = takenFrom q .queue
+
+unfoldable pub comesIn : ForcedPipeline → Call → List ForcedPosition
+comesIn q (adding p) = unlessRefused (refusal (addChecks q p)) (fresh (queued q) (offered p)) []
+comesIn q taking = []
+
+abbrev pub positionIn : Next → List ForcedPosition
+positionIn (Taken e) = e ∷ []
+positionIn Nothing = []
+positionIn (Refused n) = []
+
+unfoldable pub goesOut : ForcedPipeline → Call → List ForcedPosition
+goesOut q (adding p) = []
+goesOut q taking = positionIn (takenFrom q .next)
+
+-- the same of a run, from its first call on
+unfoldable pub leftAfter : ForcedPipeline → List Call → ForcedPipeline
+leftAfter q [] = q
+leftAfter q (c ∷ cs) = leftAfter (left q c) cs
+
+unfoldable pub allIn : ForcedPipeline → List Call → List ForcedPosition
+allIn q [] = []
+allIn q (c ∷ cs) = comesIn q c ++ allIn (left q c) cs
+
+unfoldable pub allOut : ForcedPipeline → List Call → List ForcedPosition
+allOut q [] = []
+allOut q (c ∷ cs) = goesOut q c ++ allOut (left q c) cs

@@ -1,0 +1,10 @@
+-- `sets::colours_in` meets its contract: `colours-ones`. Assumes nothing.
+use Rattle.sets.proofs.Colours.{colours-ones}
+use Rattle.sets.proofs.colours_in.Statement.{statement}
+use Rattle.sets.proofs.colours_in.Tie as tie
+
+returns : tie.Need-returns
+returns c = λ n l. colours-ones n (c .args .bits) l
+
+pub colours-in-spec : {M : Type 1} → statement M
+colours-in-spec = tie.close (tie.spec returns)

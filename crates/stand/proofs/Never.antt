@@ -1,0 +1,159 @@
+-- The auditor's question: a piece is laid on the plan and later lifted; how do you know the plan is as if that piece had never lain there?
+--     as-if-never    with any calls before, between and after, refused ones included, the board is that of the same calls without the piece's
+--     lifted-at-once   a piece laid and lifted at once leaves the very board that was there
+--     same-pieces    two runs that leave the same pieces leave the same board, whatever was laid and lifted on the way
+-- The two runs are followed side by side: at every moment the one without the piece has the other's pieces with that cell bare.
+-- Assumes nothing.
+use Prim.Native.Nat.{ℕ, zero, suc, _+_, _*_, _<_, _≤_}
+use mathlib.Core.Path.{_≡_, refl, sym, _∙_, ap, subst}
+use mathlib.Core.Bool.{true, false}
+use mathlib.Core.Logic.{_≢_}
+use mathlib.Core.List.{List, [], _∷_, _++_, append-nil}
+use native.Mathlib.Omega.{arith}
+use lib.ListN.{getD, set}
+use lib.Seq.{getD-set-other, set-set, set-getD, set-comm}
+use borrow.Author.Tests.{ltb-false, not-true}
+use Rattle.base.specs.Tables.{fold}
+use Rattle.base.specs.Refusal.{unlessRefused}
+use Rattle.base.proofs.Bools.{never, by-test, pick-yes, pick-no}
+use Rattle.base.proofs.Chain.{has-new}
+use Rattle.base.proofs.Numbers.{within-low}
+use Rattle.base.proofs.Tabled.{fold-append}
+use Rattle.rules.specs.Bounds.{bare}
+use Rattle.rules.specs.Grid.{laidOn}
+use Rattle.rules.specs.Board.{Job, Board, shapeOf, cellIn, boardOf, afterLay, afterLift}
+use Rattle.rules.specs.declared.World.{World}
+use Rattle.stand.specs.Runs.{Call, lay, lift, fresh, refusalOf, step, run, says, placeOf, samePlace, elsewhere}
+use Rattle.stand.proofs.Walls.{On, cell-in, same-place, same-cell}
+use Rattle.stand.proofs.Calls.{InBounds, cellBy, Taken, either, accepts, other, taken, Good, ofPieces, moved, nothing, fresh-good, moved-good}
+use Rattle.stand.proofs.Stands.{movedBy, run-good, run-fresh, says-all}
+
+-- two calls that are accepted together leave what corresponds
+together : {A : Type 0} (f : A → A) (n m : ℕ) {a b c d : A} → (n ≡ 0 → m ≡ 0) → (m ≡ 0 → n ≡ 0) → (n ≡ 0 → c ≡ f a) → d ≡ f b
+    → unlessRefused m c d ≡ f (unlessRefused n a b)
+together f zero m to from new old = has-new m _ _ (to refl) ∙ new refl
+together f (suc n) zero to from new old = absurd (out (from refl))
+  where
+    out : suc n ≡ 0 → ⊥
+    out e = omega arith
+together f (suc n) (suc m) to from new old = old
+
+module _ (j : Job) where
+  -- making a bare cell bare changes nothing
+  bare-stays : (p : List ℕ) (k : ℕ) → Good j p → k < j .rows * j .cols → laidOn p k ≡ false → set p k bare ≡ p
+  bare-stays p k good k< off =
+      let low : 1 ≤ getD p k 0 = within-low 1 (j .count + 1) (getD p k 0) (good .stored k k<) in
+      let high : getD p k 0 ≤ 1 = ltb-false 1 (getD p k 0) off in
+      let same : bare ≡ getD p k 0 = omega arith in
+      ap (set p k) same ∙ set-getD p k 0
+
+  module _ (w : World) (job : InBounds j) (on : On j w) where
+    abbrev k : ℕ
+    k = cellIn j w
+
+    -- the pieces with the cell of w bare
+    abbrev without : List ℕ → List ℕ
+    without q = set q k bare
+
+    -- a call on that cell
+    same-call : (q : List ℕ) (c : Call) → samePlace (placeOf c) w ≡ true → without (moved j q c) ≡ without q
+    same-call q c e = either {new = says j q c} {old = q} (λ r. without r ≡ without q) (refusalOf j (ofPieces j q) c) (λ z. at c e) refl
+      where
+        at : (c : Call) → samePlace (placeOf c) w ≡ true → without (says j q c) ≡ without q
+        at (lay v colour) e = rw (same-cell j v w e) (set-set q k (colour + 1) bare)
+        at (lift v) e = rw (same-cell j v w e) (set-set q k bare bare)
+
+    -- a call on another cell is accepted on both or on neither
+    apart : (q r : List ℕ) (c : Call) → Good j r → samePlace (placeOf c) w ≡ false → Taken j q c → (cellBy j c ≢ k → getD r (cellBy j c) 0 ≡ getD q (cellBy j c) 0)
+        → (refusalOf j (ofPieces j r) c ≡ 0) × (cellBy j c ≢ k)
+    apart q r c good e t same =
+        let ne : cellBy j c ≢ k = λ z. never (samePlace (placeOf c) w) (same-place j (placeOf c) w (t .on) on z) e in
+        (taken j r c good (other j q r c (same ne) t), ne)
+
+    other-call : (q : List ℕ) (c : Call) → Good j q → Good j (without q) → samePlace (placeOf c) w ≡ false
+        → moved j (without q) c ≡ without (moved j q c)
+    unfolding boardOf
+    other-call q c good good′ e =
+        together without (refusalOf j (ofPieces j q) c) (refusalOf j (ofPieces j (without q)) c) {a = says j q c} {b = q} {c = says j (without q) c} {d = without q}
+        (λ z. apart q (without q) c good′ e (accepts j (ofPieces j q) c z) (λ ne. getD-set-other q k (cellBy j c) bare 0 ne) .0)
+        (λ z. apart (without q) q c good e (accepts j (ofPieces j (without q)) c z) (λ ne. sym (getD-set-other q k (cellBy j c) bare 0 ne)) .0)
+        (λ z. at c (apart q (without q) c good′ e (accepts j (ofPieces j q) c z) (λ ne. getD-set-other q k (cellBy j c) bare 0 ne) .1))
+        refl
+      where
+        at : (c : Call) → cellBy j c ≢ k → says j (without q) c ≡ without (says j q c)
+        at (lay v colour) ne = set-comm q k (cellIn j v) bare (colour + 1) (λ z. ne (sym z))
+        at (lift v) ne = set-comm q k (cellIn j v) bare bare (λ z. ne (sym z))
+
+    -- the two runs side by side
+    beside : (q : List ℕ) (calls : List Call) → Good j q → Good j (without q) → movedBy j (without q) (elsewhere w calls) ≡ without (movedBy j q calls)
+    unfolding elsewhere fold
+    beside q [] good good′ = refl
+    beside q (c ∷ calls) good good′ =
+        by-test (samePlace (placeOf c) w)
+        (λ e.
+        ap (movedBy j (without q)) (pick-yes (samePlace (placeOf c) w) (elsewhere w calls) (c ∷ elsewhere w calls) e)
+        ∙ ap (λ (r : List ℕ). movedBy j r (elsewhere w calls)) (sym (same-call q c e))
+        ∙ beside (moved j q c) calls (moved-good j q c good) (subst (Good j) (sym (same-call q c e)) good′))
+        (λ e.
+        let step′ = other-call q c good good′ e in
+        ap (movedBy j (without q)) (pick-no (samePlace (placeOf c) w) (elsewhere w calls) (c ∷ elsewhere w calls) e)
+        ∙ ap (λ (r : List ℕ). movedBy j r (elsewhere w calls)) step′
+        ∙ beside (moved j q c) calls (moved-good j q c good) (subst (Good j) step′ (moved-good j (without q) c good′)))
+
+    -- after a lift the cell is bare, whether it was taken or there was nothing to lift
+    last-lift : (q : List ℕ) → Good j q → moved j q (lift w) ≡ without q
+    last-lift q good =
+        by-test (laidOn q k)
+        (λ laid. has-new _ (without q) q (taken j q (lift w) good (record { job = job; on = on; own = (laid, tt) })))
+        (λ off. either {new = without q} {old = q} (λ r. r ≡ without q) (refusalOf j (ofPieces j q) (lift w)) (λ z. refl) (sym (bare-stays q k good (cell-in j on) off)))
+
+  -- "A piece is laid on the plan and later lifted": the plan is as if that piece had never lain there. `before`, `between` and `after` are any
+  -- calls; those between that name the piece's own place (a second lay there, an earlier lift) go with it.
+  pub as-if-never : (before between after : List Call) (w : World) (colour : ℕ) → refusalOf j (run j (fresh j) before) (lay w colour) ≡ 0
+      → run j (fresh j) (before ++ lay w colour ∷ between ++ lift w ∷ after) ≡ run j (fresh j) (before ++ elsewhere w between ++ after)
+  unfolding boardOf fold
+  as-if-never before between after w colour lays =
+      run-fresh j (before ++ lay w colour ∷ between ++ lift w ∷ after)
+      ∙ ap (ofPieces j)
+      (fold-append (moved j) (nothing j) (before ++ lay w colour ∷ between) (lift w ∷ after)
+      ∙ ap (λ (r : List ℕ). movedBy j r after)
+      (ap (λ (r : List ℕ). moved j r (lift w)) (fold-append (moved j) (nothing j) before (lay w colour ∷ between))
+      ∙ last-lift w (t .job) (t .on) (movedBy j (moved j p (lay w colour)) between) (run-good j _ between (moved-good j p (lay w colour) good))
+      ∙ sym (beside w (t .job) (t .on) (moved j p (lay w colour)) between (moved-good j p (lay w colour) good) (subst (Good j) (sym back) good))
+      ∙ ap (λ (r : List ℕ). movedBy j r (elsewhere w between)) back
+      ∙ sym (fold-append (moved j) (nothing j) before (elsewhere w between)))
+      ∙ sym (fold-append (moved j) (nothing j) (before ++ elsewhere w between) after))
+      ∙ sym (run-fresh j (before ++ elsewhere w between ++ after))
+    where
+      p : List ℕ
+      p = movedBy j (nothing j) before
+
+      good : Good j p
+      good = run-good j (nothing j) before (fresh-good j)
+
+      lays′ : refusalOf j (ofPieces j p) (lay w colour) ≡ 0
+      lays′ = ap (λ (b : Board). refusalOf j b (lay w colour)) (sym (run-fresh j before)) ∙ lays
+
+      t : Taken j p (lay w colour)
+      t = accepts j (ofPieces j p) (lay w colour) lays′
+
+      back : set (moved j p (lay w colour)) (cellIn j w) bare ≡ p
+      back =
+          ap (λ (r : List ℕ). set r (cellIn j w) bare) (has-new _ (says j p (lay w colour)) p lays′)
+          ∙ set-set p (cellIn j w) (colour + 1) bare
+          ∙ bare-stays p (cellIn j w) good (cell-in j (t .on)) (not-true _ (t .own .1 .0))
+
+  -- a piece laid and lifted at once leaves the very board that was there
+  pub lifted-at-once : (calls : List Call) (w : World) (colour : ℕ) → refusalOf j (run j (fresh j) calls) (lay w colour) ≡ 0
+      → afterLift j (afterLay j (run j (fresh j) calls) w colour) w ≡ run j (fresh j) calls
+  unfolding run fold elsewhere
+  lifted-at-once calls w colour lays =
+      sym
+      (fold-append (step j) (fresh j) (calls ++ lay w colour ∷ []) (lift w ∷ [])
+      ∙ ap (λ (b : Board). afterLift j b w) (fold-append (step j) (fresh j) calls (lay w colour ∷ [])))
+      ∙ as-if-never calls [] [] w colour lays
+      ∙ ap (run j (fresh j)) (append-nil (calls ++ []) ∙ append-nil calls)
+
+  -- whatever was laid and lifted on the way, the board depends on the standing pieces alone
+  pub same-pieces : (some others : List Call) → run j (fresh j) some .pieces ≡ run j (fresh j) others .pieces → run j (fresh j) some ≡ run j (fresh j) others
+  same-pieces some others e = says-all j some ∙ ap (boardOf (shapeOf j) (j .tiles)) e ∙ sym (says-all j others)

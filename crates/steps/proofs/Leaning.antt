@@ -1,0 +1,59 @@
+-- What the calls on a weights plane lean on once their checks have passed, and the chain of their checks in two parts.
+-- Assumes nothing.
+use Prim.Native.Nat.{ℕ, zero, suc, _+_, _*_, _<_, _≤_}
+use mathlib.Core.Path.{_≡_, refl, sym, _∙_, ap}
+use mathlib.Core.Bool.{Bool, true, false}
+use mathlib.Core.List.{List}
+use native.Mathlib.Omega.{arith}
+use lib.ListN.{length, getD}
+use Rattle.base.specs.Refusal.{Checks, accepted, _unless_or_, refusal}
+use Rattle.base.proofs.Chain.{passed, _then_, stopped, went-on, numbered}
+use Rattle.rules.specs.Bounds.{maxWeight, SHAPE, LENGTH, CELL, PLACE}
+use Rattle.rules.specs.Tests.{boardSides, hasLength, noneAbove, onBoard}
+use Rattle.rules.specs.Places.{cellOf}
+use Rattle.rules.specs.Fit.{placeChecks}
+use Rattle.rules.specs.Board.{weightChecks}
+use Rattle.rules.specs.declared.World.{World}
+use Rattle.rules.specs.declared.Offset.{Offset}
+use Rattle.checks.proofs.Sides.{board-rows, board-cols, long, none-above}
+use Rattle.places.proofs.Indices.{placed, row-below, col-below}
+use Rattle.steps.specs.Near.{OnPlane, lightFrom, weightsChecks}
+
+-- a plane in bounds, and the cell of a place that was not refused
+pub on-plane : (plane : List ℕ) (rows cols : ℕ) (w : World) (o : Offset) → boardSides rows cols ≡ true → hasLength plane (rows * cols) ≡ true
+    → onBoard rows cols w o ≡ true → OnPlane plane rows cols (cellOf w o)
+on-plane plane rows cols w o s h b =
+    record {
+      tall = board-rows rows cols s .1;
+      wide = board-cols rows cols s .1;
+      long = long plane (rows * cols) h;
+      down = row-below rows cols w o b;
+      across = col-below rows cols w o b;
+    }
+
+module _ (weights : List ℕ) (rows cols : ℕ) where
+  pub record Weighed : Type 0 where
+    pub sides : boardSides rows cols ≡ true
+    pub lengths : hasLength weights (rows * cols) ≡ true
+    pub light : lightFrom 0 weights
+
+  pub weighed : refusal (weightsChecks weights rows cols) ≡ 0 → Weighed
+  weighed e =
+      let a = passed 0 (boardSides rows cols) (LENGTH unless hasLength weights (rows * cols) or CELL unless noneAbove weights maxWeight or accepted) e in
+      let b = passed 1 (hasLength weights (rows * cols)) (CELL unless noneAbove weights maxWeight or accepted) (a .1) in
+      let d = passed 3 (noneAbove weights maxWeight) accepted (b .1) in
+      record { sides = a .0; lengths = b .0; light = λ i h k. none-above weights maxWeight (d .0) i k }
+
+  module _ (w : World) (o : Offset) where
+    pub weight-stopped : (n : ℕ) → n ≡ refusal (weightsChecks weights rows cols) → (n ≡ 0 → ⊥) → n ≡ refusal (weightChecks weights rows cols w o)
+    unfolding _then_
+    weight-stopped n e h = stopped n (weightsChecks weights rows cols) (placeChecks rows cols w o accepted) e h
+
+    pub weight-went-on : (n m : ℕ) → n ≡ refusal (weightsChecks weights rows cols) → n ≡ 0 → m ≡ refusal (placeChecks rows cols w o accepted)
+        → m ≡ refusal (weightChecks weights rows cols w o)
+    unfolding _then_ numbered
+    weight-went-on n m e z q = went-on (weightsChecks weights rows cols) (placeChecks rows cols w o accepted) refl e z q
+
+-- the number PLACE is not 0
+pub six : PLACE ≡ 0 → ⊥
+six e = omega arith

@@ -1,0 +1,5 @@
+pub mod Rows
+pub mod Spans
+pub mod Nearby
+pub mod Placing
+pub mod Leaning

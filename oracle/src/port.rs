@@ -1,0 +1,710 @@
+//! Everything that touches the port: its exported functions as declared, and one safe function a call.
+//!
+//! The boundary is numbers and slices. A slice goes over as a pointer and its number of elements. Each exported function
+//! answers 0 or a refusal's number; what it finds goes into lent slices of exactly the length named here. Nothing checks
+//! these declarations against the port's source but the runs themselves.
+
+use crate::calls::*;
+
+unsafe extern "C" {
+    // out: row start, row end, column start, column end
+    fn port_get_region_spans(
+        offset_row: i32, offset_col: i32, row: i32, col: i32, radius: usize, out: *mut u64, out_len: usize,
+    ) -> u32;
+    // out: 0 or 1
+    fn port_contains(
+        min_row: i32, min_col: i32, max_row: i32, max_col: i32, row: i32, col: i32, out: *mut u32, out_len: usize,
+    ) -> u32;
+    // pads: left, right, top, bottom; offset: row, column; needed: 0 or 1
+    fn port_calculate_extension(
+        rows: usize, cols: usize, offset_row: i32, offset_col: i32, row: i32, col: i32, radius: usize,
+        pads: *mut u64, pads_len: usize, offset: *mut i32, offset_len: usize, needed: *mut u32, needed_len: usize,
+    ) -> u32;
+    fn port_constrained_extension(
+        rows: usize, cols: usize, offset_row: i32, offset_col: i32, row: i32, col: i32, radius: usize,
+        min_row: i32, min_col: i32, max_row: i32, max_col: i32,
+        pads: *mut u64, pads_len: usize, offset: *mut i32, offset_len: usize, needed: *mut u32, needed_len: usize,
+    ) -> u32;
+    fn port_extend_u32(
+        plane: *const u32, plane_len: usize, rows: usize, cols: usize,
+        left: usize, right: usize, top: usize, bottom: usize, target: *mut u32, target_len: usize,
+    ) -> u32;
+    fn port_extend_f64(
+        plane: *const f64, plane_len: usize, rows: usize, cols: usize,
+        left: usize, right: usize, top: usize, bottom: usize, target: *mut f64, target_len: usize,
+    ) -> u32;
+
+    // a set in: bits, size; a set out: bits, size; a number out: one entry
+    fn port_set_new(size: u32, out: *mut u32, out_len: usize) -> u32;
+    fn port_set_all(size: u32, out: *mut u32, out_len: usize) -> u32;
+    fn port_set_insert(bits: u32, size: u32, colour: u32, out: *mut u32, out_len: usize) -> u32;
+    fn port_set_contains(bits: u32, size: u32, colour: u32, out: *mut u32, out_len: usize) -> u32;
+    fn port_set_intersection(
+        bits: u32, size: u32, other_bits: u32, other_size: u32, out: *mut u32, out_len: usize,
+    ) -> u32;
+    fn port_set_is_empty(bits: u32, size: u32, out: *mut u32, out_len: usize) -> u32;
+    fn port_set_count(bits: u32, size: u32, out: *mut u64, out_len: usize) -> u32;
+    // colours: 30 entries, 0 past the members; len: one entry
+    fn port_set_to_vec(
+        bits: u32, size: u32, colours: *mut u8, colours_len: usize, len: *mut u64, len_len: usize,
+    ) -> u32;
+
+    // out: the number of tiles
+    fn port_extract_tiles(
+        sample: *const u8, sample_len: usize, rows: usize, cols: usize, count: u32, rotations: bool,
+        reflections: bool, store: *mut u8, store_len: usize, out: *mut u64, out_len: usize,
+    ) -> u32;
+    // nine bytes in, nine out
+    fn port_rotate_90(tile: *const u8, tile_len: usize, out: *mut u8, out_len: usize);
+    fn port_reflect(tile: *const u8, tile_len: usize, out: *mut u8, out_len: usize);
+    fn port_membership(tile: *const u8, tile_len: usize, count: u32, out: *mut u32, out_len: usize) -> u32;
+
+    // start: a cell index
+    fn port_region_count(
+        pieces: *const u32, pieces_len: usize, rows: usize, cols: usize, tiles: *const u8, tiles_len: usize, count: u32,
+        start_row: usize, start_col: usize, out: *mut u64, out_len: usize,
+    ) -> u32;
+    fn port_fraction(
+        counts: *const u32, counts_len: usize, rows: usize, cols: usize, number: usize, row: usize, col: usize,
+        out: *mut f64, out_len: usize,
+    ) -> u32;
+    fn port_listing(
+        pieces: *const u32, pieces_len: usize, rows: usize, cols: usize, tiles: *const u8, tiles_len: usize, count: u32,
+        row: i32, col: i32, offset_row: i32, offset_col: i32, out: *mut u32, out_len: usize,
+    ) -> u32;
+    // coordinates: 16 entries, row and column by turns; colours: 8; len: one. Entries past the length are 0.
+    fn port_forced(
+        pieces: *const u32, pieces_len: usize, rows: usize, cols: usize, tiles: *const u8, tiles_len: usize, count: u32,
+        row: i32, col: i32, offset_row: i32, offset_col: i32,
+        within: bool, min_row: i32, min_col: i32, max_row: i32, max_col: i32,
+        coordinates: *mut i32, coordinates_len: usize, colours: *mut u32, colours_len: usize,
+        len: *mut u64, len_len: usize,
+    ) -> u32;
+    // the queue goes in and comes back in the same slices: coordinates 128 entries, colours 64, len one
+    fn port_queue_add(
+        coordinates: *mut i32, coordinates_len: usize, colours: *mut u32, colours_len: usize,
+        len: *mut u64, len_len: usize,
+        added_coordinates: *const i32, added_coordinates_len: usize, added_colours: *const u32,
+        added_colours_len: usize, added_len: usize,
+    ) -> u32;
+    // taken: row, column; colour: one entry; found: 1, or 0 for nothing
+    fn port_queue_take(
+        coordinates: *mut i32, coordinates_len: usize, colours: *mut u32, colours_len: usize,
+        len: *mut u64, len_len: usize, taken: *mut i32, taken_len: usize, colour: *mut u32, colour_len: usize,
+        found: *mut u32, found_len: usize,
+    ) -> u32;
+    fn port_queue_is_empty(
+        coordinates: *const i32, coordinates_len: usize, colours: *const u32, colours_len: usize, len: usize,
+        out: *mut u32, out_len: usize,
+    ) -> u32;
+    fn port_queue_len(
+        coordinates: *const i32, coordinates_len: usize, colours: *const u32, colours_len: usize, len: usize,
+        out: *mut u64, out_len: usize,
+    ) -> u32;
+    // out: 1 or 0 for nowhere, row, column
+    fn port_scan(
+        pieces: *const u32, pieces_len: usize, weights: *const u32, weights_len: usize, rows: usize, cols: usize,
+        tiles: *const u8, tiles_len: usize, count: u32, out: *mut u64, out_len: usize,
+    ) -> u32;
+
+    fn port_raise_weights(
+        weights: *mut u32, weights_len: usize, rows: usize, cols: usize, row: i32, col: i32, offset_row: i32,
+        offset_col: i32,
+    ) -> u32;
+    fn port_lower_weights(
+        weights: *mut u32, weights_len: usize, rows: usize, cols: usize, row: i32, col: i32, offset_row: i32,
+        offset_col: i32,
+    ) -> u32;
+    fn port_recount(
+        counts: *mut u32, counts_len: usize, pieces: *const u32, pieces_len: usize, rows: usize, cols: usize,
+        tiles: *const u8, tiles_len: usize, count: u32, row: i32, col: i32, offset_row: i32, offset_col: i32,
+    ) -> u32;
+    fn port_fresh(
+        pieces: *mut u32, pieces_len: usize, weights: *mut u32, weights_len: usize, counts: *mut u32, counts_len: usize,
+        rows: usize, cols: usize, number: usize,
+    ) -> u32;
+    fn port_lay(
+        pieces: *mut u32, pieces_len: usize, weights: *mut u32, weights_len: usize, counts: *mut u32, counts_len: usize,
+        rows: usize, cols: usize, tiles: *const u8, tiles_len: usize, count: u32, row: i32, col: i32, offset_row: i32,
+        offset_col: i32, colour: u32,
+    ) -> u32;
+    fn port_lift(
+        pieces: *mut u32, pieces_len: usize, weights: *mut u32, weights_len: usize, counts: *mut u32, counts_len: usize,
+        rows: usize, cols: usize, tiles: *const u8, tiles_len: usize, count: u32, row: i32, col: i32, offset_row: i32,
+        offset_col: i32,
+    ) -> u32;
+
+    fn port_normalise(
+        probabilities: *const f64, probabilities_len: usize, rows: usize, cols: usize, count: u32, row: i32, col: i32,
+        offset_row: i32, offset_col: i32, out: *mut f64, out_len: usize,
+    ) -> u32;
+    fn port_product(
+        probabilities: *mut f64, probabilities_len: usize, rows: usize, cols: usize, count: u32, block: *const f64,
+        block_len: usize, block_rows: usize, block_cols: usize, row: i32, col: i32, offset_row: i32, offset_col: i32,
+        radius: usize,
+    ) -> u32;
+    fn port_quotient(
+        probabilities: *mut f64, probabilities_len: usize, rows: usize, cols: usize, count: u32, block: *const f64,
+        block_len: usize, block_rows: usize, block_cols: usize, row: i32, col: i32, offset_row: i32, offset_col: i32,
+        radius: usize,
+    ) -> u32;
+    fn port_lay_score(
+        scores: *mut f64, scores_len: usize, counts: *const u32, counts_len: usize, rows: usize, cols: usize,
+        number: usize, row: i32, col: i32, offset_row: i32, offset_col: i32,
+    ) -> u32;
+    fn port_lift_score(
+        scores: *mut f64, scores_len: usize, counts: *const u32, counts_len: usize, rows: usize, cols: usize,
+        number: usize, row_start: usize, row_end: usize, col_start: usize, col_end: usize,
+    ) -> u32;
+}
+
+fn answer<T>(refused: u32, value: T) -> Answer<T> {
+    match refused {
+        0 => Ok(value),
+        number => Err(Refusal::try_from(number).expect("a refusal's number")),
+    }
+}
+
+// ---- places
+
+pub fn get_region_spans(offset: Offset, world: World, radius: usize) -> Answer<(Span, Span)> {
+    let mut out = [0u64; 4];
+    let refused =
+        unsafe { port_get_region_spans(offset.0, offset.1, world.0, world.1, radius, out.as_mut_ptr(), out.len()) };
+    let [a, b, c, d] = out.map(|end| end as usize);
+    answer(refused, (Span(a, b), Span(c, d)))
+}
+
+pub fn contains(bounds: BoundingBox, world: World) -> Answer<bool> {
+    let BoundingBox { min, max } = bounds;
+    let mut out = [0u32; 1];
+    let refused =
+        unsafe { port_contains(min.0, min.1, max.0, max.1, world.0, world.1, out.as_mut_ptr(), out.len()) };
+    answer(refused, out[0] == 1)
+}
+
+fn extension(pads: [u64; 4], offset: [i32; 2], needed: [u32; 1]) -> ExtensionInfo {
+    let [left, right, top, bottom] = pads.map(|pad| pad as usize);
+    ExtensionInfo {
+        pads: Pads { left, right, top, bottom },
+        offset: Offset(offset[0], offset[1]),
+        needed: needed[0] == 1,
+    }
+}
+
+pub fn calculate_extension(
+    rows: usize,
+    cols: usize,
+    offset: Offset,
+    world: World,
+    radius: usize,
+) -> Answer<ExtensionInfo> {
+    let (mut pads, mut new_offset, mut needed) = ([0; 4], [0; 2], [0; 1]);
+    let refused = unsafe {
+        port_calculate_extension(
+            rows, cols, offset.0, offset.1, world.0, world.1, radius,
+            pads.as_mut_ptr(), 4, new_offset.as_mut_ptr(), 2, needed.as_mut_ptr(), 1,
+        )
+    };
+    answer(refused, extension(pads, new_offset, needed))
+}
+
+pub fn constrained_extension(
+    rows: usize,
+    cols: usize,
+    offset: Offset,
+    world: World,
+    radius: usize,
+    bounds: BoundingBox,
+) -> Answer<ExtensionInfo> {
+    let BoundingBox { min, max } = bounds;
+    let (mut pads, mut new_offset, mut needed) = ([0; 4], [0; 2], [0; 1]);
+    let refused = unsafe {
+        port_constrained_extension(
+            rows, cols, offset.0, offset.1, world.0, world.1, radius, min.0, min.1, max.0, max.1,
+            pads.as_mut_ptr(), 4, new_offset.as_mut_ptr(), 2, needed.as_mut_ptr(), 1,
+        )
+    };
+    answer(refused, extension(pads, new_offset, needed))
+}
+
+pub fn extend_array_2d_u32(plane: &[u32], rows: usize, cols: usize, pads: Pads, target: &mut [u32]) -> Answer<()> {
+    let Pads { left, right, top, bottom } = pads;
+    let refused = unsafe {
+        port_extend_u32(
+            plane.as_ptr(), plane.len(), rows, cols, left, right, top, bottom, target.as_mut_ptr(), target.len(),
+        )
+    };
+    answer(refused, ())
+}
+
+pub fn extend_array_2d_f64(plane: &[f64], rows: usize, cols: usize, pads: Pads, target: &mut [f64]) -> Answer<()> {
+    let Pads { left, right, top, bottom } = pads;
+    let refused = unsafe {
+        port_extend_f64(
+            plane.as_ptr(), plane.len(), rows, cols, left, right, top, bottom, target.as_mut_ptr(), target.len(),
+        )
+    };
+    answer(refused, ())
+}
+
+// ---- sets
+
+fn set(out: [u32; 2]) -> TileBitset {
+    TileBitset { bits: out[0], size: out[1] }
+}
+
+pub fn set_new(size: u32) -> Answer<TileBitset> {
+    let mut out = [0; 2];
+    let refused = unsafe { port_set_new(size, out.as_mut_ptr(), 2) };
+    answer(refused, set(out))
+}
+
+pub fn set_all(size: u32) -> Answer<TileBitset> {
+    let mut out = [0; 2];
+    let refused = unsafe { port_set_all(size, out.as_mut_ptr(), 2) };
+    answer(refused, set(out))
+}
+
+pub fn set_insert(given: TileBitset, colour: u32) -> Answer<TileBitset> {
+    let mut out = [0; 2];
+    let refused = unsafe { port_set_insert(given.bits, given.size, colour, out.as_mut_ptr(), 2) };
+    answer(refused, set(out))
+}
+
+pub fn set_contains(given: TileBitset, colour: u32) -> Answer<bool> {
+    let mut out = [0; 1];
+    let refused = unsafe { port_set_contains(given.bits, given.size, colour, out.as_mut_ptr(), 1) };
+    answer(refused, out[0] == 1)
+}
+
+pub fn set_intersection(given: TileBitset, other: TileBitset) -> Answer<TileBitset> {
+    let mut out = [0; 2];
+    let refused =
+        unsafe { port_set_intersection(given.bits, given.size, other.bits, other.size, out.as_mut_ptr(), 2) };
+    answer(refused, set(out))
+}
+
+pub fn set_is_empty(given: TileBitset) -> Answer<bool> {
+    let mut out = [0; 1];
+    let refused = unsafe { port_set_is_empty(given.bits, given.size, out.as_mut_ptr(), 1) };
+    answer(refused, out[0] == 1)
+}
+
+pub fn set_count(given: TileBitset) -> Answer<usize> {
+    let mut out = [0; 1];
+    let refused = unsafe { port_set_count(given.bits, given.size, out.as_mut_ptr(), 1) };
+    answer(refused, out[0] as usize)
+}
+
+pub fn set_to_vec(given: TileBitset) -> Answer<ColourList> {
+    let (mut colours, mut len) = ([0; 30], [0; 1]);
+    let refused =
+        unsafe { port_set_to_vec(given.bits, given.size, colours.as_mut_ptr(), 30, len.as_mut_ptr(), 1) };
+    answer(refused, ColourList { colours, len: len[0] as usize })
+}
+
+// ---- tiles
+
+pub fn extract_tiles(
+    sample: &[u8],
+    rows: usize,
+    cols: usize,
+    count: u32,
+    rotations: bool,
+    reflections: bool,
+    store: &mut [u8],
+) -> Answer<usize> {
+    let mut out = [0; 1];
+    let refused = unsafe {
+        port_extract_tiles(
+            sample.as_ptr(), sample.len(), rows, cols, count, rotations, reflections, store.as_mut_ptr(), store.len(),
+            out.as_mut_ptr(), 1,
+        )
+    };
+    answer(refused, out[0] as usize)
+}
+
+pub fn rotate_90(tile: [u8; 9]) -> [u8; 9] {
+    let mut out = [0; 9];
+    unsafe { port_rotate_90(tile.as_ptr(), 9, out.as_mut_ptr(), 9) };
+    out
+}
+
+pub fn reflect(tile: [u8; 9]) -> [u8; 9] {
+    let mut out = [0; 9];
+    unsafe { port_reflect(tile.as_ptr(), 9, out.as_mut_ptr(), 9) };
+    out
+}
+
+pub fn membership(tile: [u8; 9], count: u32) -> Answer<TileBitset> {
+    let mut out = [0; 2];
+    let refused = unsafe { port_membership(tile.as_ptr(), 9, count, out.as_mut_ptr(), 2) };
+    answer(refused, set(out))
+}
+
+// ---- fit
+
+pub fn region_count(
+    pieces: &[u32],
+    rows: usize,
+    cols: usize,
+    tiles: &[u8],
+    count: u32,
+    start: Cell,
+) -> Answer<usize> {
+    let mut out = [0; 1];
+    let refused = unsafe {
+        port_region_count(
+            pieces.as_ptr(), pieces.len(), rows, cols, tiles.as_ptr(), tiles.len(), count, start.0, start.1,
+            out.as_mut_ptr(), 1,
+        )
+    };
+    answer(refused, out[0] as usize)
+}
+
+pub fn fraction(counts: &[u32], rows: usize, cols: usize, number: usize, cell: Cell) -> Answer<f64> {
+    let mut out = [0.0; 1];
+    let refused = unsafe {
+        port_fraction(counts.as_ptr(), counts.len(), rows, cols, number, cell.0, cell.1, out.as_mut_ptr(), 1)
+    };
+    answer(refused, out[0])
+}
+
+pub fn listing(
+    pieces: &[u32],
+    rows: usize,
+    cols: usize,
+    tiles: &[u8],
+    count: u32,
+    world: World,
+    offset: Offset,
+) -> Answer<TileBitset> {
+    let mut out = [0; 2];
+    let refused = unsafe {
+        port_listing(
+            pieces.as_ptr(), pieces.len(), rows, cols, tiles.as_ptr(), tiles.len(), count, world.0, world.1,
+            offset.0, offset.1, out.as_mut_ptr(), 2,
+        )
+    };
+    answer(refused, set(out))
+}
+
+#[allow(clippy::too_many_arguments)]
+pub fn forced(
+    pieces: &[u32],
+    rows: usize,
+    cols: usize,
+    tiles: &[u8],
+    count: u32,
+    world: World,
+    offset: Offset,
+    bounds: Option<BoundingBox>,
+) -> Answer<ForcedPositions> {
+    let BoundingBox { min, max } = bounds.unwrap_or(BoundingBox { min: World(0, 0), max: World(0, 0) });
+    let (mut coordinates, mut colours, mut len) = ([0; 16], [0; 8], [0; 1]);
+    let refused = unsafe {
+        port_forced(
+            pieces.as_ptr(), pieces.len(), rows, cols, tiles.as_ptr(), tiles.len(), count, world.0, world.1,
+            offset.0, offset.1, bounds.is_some(), min.0, min.1, max.0, max.1,
+            coordinates.as_mut_ptr(), 16, colours.as_mut_ptr(), 8, len.as_mut_ptr(), 1,
+        )
+    };
+    answer(refused, ForcedPositions { entries: positions(&coordinates, &colours), len: len[0] as usize })
+}
+
+fn positions<const N: usize>(coordinates: &[i32], colours: &[u32]) -> [ForcedPosition; N] {
+    std::array::from_fn(|at| ForcedPosition {
+        coordinates: World(coordinates[2 * at], coordinates[2 * at + 1]),
+        colour: colours[at],
+    })
+}
+
+// ---- the queue
+
+/// A queue or a list of forced places as the boundary has it.
+struct Flat<const N: usize, const TWICE: usize> {
+    coordinates: [i32; TWICE],
+    colours: [u32; N],
+    len: [u64; 1],
+}
+
+fn flat<const N: usize, const TWICE: usize>(entries: &[ForcedPosition; N], len: usize) -> Flat<N, TWICE> {
+    Flat {
+        coordinates: std::array::from_fn(|at| {
+            let World(row, col) = entries[at / 2].coordinates;
+            if at % 2 == 0 { row } else { col }
+        }),
+        colours: std::array::from_fn(|at| entries[at].colour),
+        len: [len as u64],
+    }
+}
+
+fn queue(flat: &Flat<64, 128>) -> ForcedPipeline {
+    ForcedPipeline { entries: positions(&flat.coordinates, &flat.colours), len: flat.len[0] as usize }
+}
+
+pub fn queue_add(given: ForcedPipeline, added: ForcedPositions) -> (Answer<()>, ForcedPipeline) {
+    let mut given: Flat<64, 128> = flat(&given.entries, given.len);
+    let added: Flat<8, 16> = flat(&added.entries, added.len);
+    let refused = unsafe {
+        port_queue_add(
+            given.coordinates.as_mut_ptr(), 128, given.colours.as_mut_ptr(), 64, given.len.as_mut_ptr(), 1,
+            added.coordinates.as_ptr(), 16, added.colours.as_ptr(), 8, added.len[0] as usize,
+        )
+    };
+    (answer(refused, ()), queue(&given))
+}
+
+pub fn queue_take(given: ForcedPipeline) -> (Answer<Option<ForcedPosition>>, ForcedPipeline) {
+    let mut given: Flat<64, 128> = flat(&given.entries, given.len);
+    let (mut taken, mut colour, mut found) = ([0; 2], [0; 1], [0; 1]);
+    let refused = unsafe {
+        port_queue_take(
+            given.coordinates.as_mut_ptr(), 128, given.colours.as_mut_ptr(), 64, given.len.as_mut_ptr(), 1,
+            taken.as_mut_ptr(), 2, colour.as_mut_ptr(), 1, found.as_mut_ptr(), 1,
+        )
+    };
+    let entry = ForcedPosition { coordinates: World(taken[0], taken[1]), colour: colour[0] };
+    (answer(refused, (found[0] == 1).then_some(entry)), queue(&given))
+}
+
+pub fn queue_is_empty(given: ForcedPipeline) -> Answer<bool> {
+    let given: Flat<64, 128> = flat(&given.entries, given.len);
+    let mut out = [0; 1];
+    let refused = unsafe {
+        port_queue_is_empty(
+            given.coordinates.as_ptr(), 128, given.colours.as_ptr(), 64, given.len[0] as usize, out.as_mut_ptr(), 1,
+        )
+    };
+    answer(refused, out[0] == 1)
+}
+
+pub fn queue_len(given: ForcedPipeline) -> Answer<usize> {
+    let given: Flat<64, 128> = flat(&given.entries, given.len);
+    let mut out = [0; 1];
+    let refused = unsafe {
+        port_queue_len(
+            given.coordinates.as_ptr(), 128, given.colours.as_ptr(), 64, given.len[0] as usize, out.as_mut_ptr(), 1,
+        )
+    };
+    answer(refused, out[0] as usize)
+}
+
+// ---- the board
+
+pub fn scan(
+    pieces: &[u32],
+    weights: &[u32],
+    rows: usize,
+    cols: usize,
+    tiles: &[u8],
+    count: u32,
+) -> Answer<Option<Cell>> {
+    let mut out = [0; 3];
+    let refused = unsafe {
+        port_scan(
+            pieces.as_ptr(), pieces.len(), weights.as_ptr(), weights.len(), rows, cols, tiles.as_ptr(), tiles.len(),
+            count, out.as_mut_ptr(), 3,
+        )
+    };
+    answer(refused, (out[0] == 1).then_some(Cell(out[1] as usize, out[2] as usize)))
+}
+
+pub fn raise_weights(weights: &mut [u32], rows: usize, cols: usize, world: World, offset: Offset) -> Answer<()> {
+    let refused = unsafe {
+        port_raise_weights(
+            weights.as_mut_ptr(), weights.len(), rows, cols, world.0, world.1, offset.0, offset.1,
+        )
+    };
+    answer(refused, ())
+}
+
+pub fn lower_weights(weights: &mut [u32], rows: usize, cols: usize, world: World, offset: Offset) -> Answer<()> {
+    let refused = unsafe {
+        port_lower_weights(
+            weights.as_mut_ptr(), weights.len(), rows, cols, world.0, world.1, offset.0, offset.1,
+        )
+    };
+    answer(refused, ())
+}
+
+#[allow(clippy::too_many_arguments)]
+pub fn recount(
+    counts: &mut [u32],
+    pieces: &[u32],
+    rows: usize,
+    cols: usize,
+    tiles: &[u8],
+    count: u32,
+    world: World,
+    offset: Offset,
+) -> Answer<()> {
+    let refused = unsafe {
+        port_recount(
+            counts.as_mut_ptr(), counts.len(), pieces.as_ptr(), pieces.len(), rows, cols, tiles.as_ptr(), tiles.len(),
+            count, world.0, world.1, offset.0, offset.1,
+        )
+    };
+    answer(refused, ())
+}
+
+pub fn fresh(
+    pieces: &mut [u32],
+    weights: &mut [u32],
+    counts: &mut [u32],
+    rows: usize,
+    cols: usize,
+    number: usize,
+) -> Answer<()> {
+    let refused = unsafe {
+        port_fresh(
+            pieces.as_mut_ptr(), pieces.len(), weights.as_mut_ptr(), weights.len(), counts.as_mut_ptr(), counts.len(),
+            rows, cols, number,
+        )
+    };
+    answer(refused, ())
+}
+
+#[allow(clippy::too_many_arguments)]
+pub fn lay(
+    pieces: &mut [u32],
+    weights: &mut [u32],
+    counts: &mut [u32],
+    rows: usize,
+    cols: usize,
+    tiles: &[u8],
+    count: u32,
+    world: World,
+    offset: Offset,
+    colour: u32,
+) -> Answer<()> {
+    let refused = unsafe {
+        port_lay(
+            pieces.as_mut_ptr(), pieces.len(), weights.as_mut_ptr(), weights.len(), counts.as_mut_ptr(), counts.len(),
+            rows, cols, tiles.as_ptr(), tiles.len(), count, world.0, world.1, offset.0, offset.1, colour,
+        )
+    };
+    answer(refused, ())
+}
+
+#[allow(clippy::too_many_arguments)]
+pub fn lift(
+    pieces: &mut [u32],
+    weights: &mut [u32],
+    counts: &mut [u32],
+    rows: usize,
+    cols: usize,
+    tiles: &[u8],
+    count: u32,
+    world: World,
+    offset: Offset,
+) -> Answer<()> {
+    let refused = unsafe {
+        port_lift(
+            pieces.as_mut_ptr(), pieces.len(), weights.as_mut_ptr(), weights.len(), counts.as_mut_ptr(), counts.len(),
+            rows, cols, tiles.as_ptr(), tiles.len(), count, world.0, world.1, offset.0, offset.1,
+        )
+    };
+    answer(refused, ())
+}
+
+// ---- probabilities and scores
+
+pub fn normalise(
+    probabilities: &[f64],
+    rows: usize,
+    cols: usize,
+    count: u32,
+    world: World,
+    offset: Offset,
+    out: &mut [f64],
+) -> Answer<()> {
+    let refused = unsafe {
+        port_normalise(
+            probabilities.as_ptr(), probabilities.len(), rows, cols, count, world.0, world.1, offset.0, offset.1,
+            out.as_mut_ptr(), out.len(),
+        )
+    };
+    answer(refused, ())
+}
+
+#[allow(clippy::too_many_arguments)]
+pub fn product(
+    probabilities: &mut [f64],
+    rows: usize,
+    cols: usize,
+    count: u32,
+    block: &[f64],
+    block_rows: usize,
+    block_cols: usize,
+    world: World,
+    offset: Offset,
+    radius: usize,
+) -> Answer<()> {
+    let refused = unsafe {
+        port_product(
+            probabilities.as_mut_ptr(), probabilities.len(), rows, cols, count, block.as_ptr(), block.len(),
+            block_rows, block_cols, world.0, world.1, offset.0, offset.1, radius,
+        )
+    };
+    answer(refused, ())
+}
+
+#[allow(clippy::too_many_arguments)]
+pub fn quotient(
+    probabilities: &mut [f64],
+    rows: usize,
+    cols: usize,
+    count: u32,
+    block: &[f64],
+    block_rows: usize,
+    block_cols: usize,
+    world: World,
+    offset: Offset,
+    radius: usize,
+) -> Answer<()> {
+    let refused = unsafe {
+        port_quotient(
+            probabilities.as_mut_ptr(), probabilities.len(), rows, cols, count, block.as_ptr(), block.len(),
+            block_rows, block_cols, world.0, world.1, offset.0, offset.1, radius,
+        )
+    };
+    answer(refused, ())
+}
+
+pub fn lay_score(
+    scores: &mut [f64],
+    counts: &[u32],
+    rows: usize,
+    cols: usize,
+    number: usize,
+    world: World,
+    offset: Offset,
+) -> Answer<()> {
+    let refused = unsafe {
+        port_lay_score(
+            scores.as_mut_ptr(), scores.len(), counts.as_ptr(), counts.len(), rows, cols, number, world.0, world.1,
+            offset.0, offset.1,
+        )
+    };
+    answer(refused, ())
+}
+
+pub fn lift_score(
+    scores: &mut [f64],
+    counts: &[u32],
+    rows: usize,
+    cols: usize,
+    number: usize,
+    row_span: Span,
+    col_span: Span,
+) -> Answer<()> {
+    let refused = unsafe {
+        port_lift_score(
+            scores.as_mut_ptr(), scores.len(), counts.as_ptr(), counts.len(), rows, cols, number, row_span.0,
+            row_span.1, col_span.0, col_span.1,
+        )
+    };
+    answer(refused, ())
+}

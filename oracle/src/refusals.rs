@@ -1,0 +1,431 @@
+//! Document 01's refusal table, said once more and on its own: for each call, every rule that applies to it. Of those that
+//! hold, the lowest number is the answer. Only the tile store's ROOM stands with its step, which knows the tiles.
+
+use crate::calls::*;
+
+const MAX_BOARD_SIDE: usize = 64;
+const MAX_SAMPLE_SIDE: usize = 32;
+const MAX_TILES: usize = 7_200;
+const MAX_RADIUS: usize = 63;
+const MAX_BLOCK_SIDE: usize = 127;
+const MAX_COLOURS: u32 = 30;
+const MAX_WEIGHT: u32 = 4_000_000_000;
+
+fn lowest(rules: &[(bool, Refusal)]) -> Option<Refusal> {
+    rules.iter().filter(|rule| rule.0).map(|rule| rule.1).min()
+}
+
+// ---- the rules; each is true where the input is at fault
+
+fn sides(rows: usize, cols: usize) -> bool {
+    rows < 1 || cols < 1 || rows > MAX_BOARD_SIDE || cols > MAX_BOARD_SIDE
+}
+
+fn radius(radius: usize) -> bool {
+    radius > MAX_RADIUS
+}
+
+/// The wanted length is a product, and may be larger than any length can be.
+fn length(len: usize, wanted: &[usize]) -> bool {
+    wanted.contains(&0) && len != 0
+        || !wanted.contains(&0) && wanted.iter().try_fold(1usize, |all, &side| all.checked_mul(side)) != Some(len)
+}
+
+fn tile_list(tiles: &[u8]) -> bool {
+    tiles.len() % 9 != 0 || tile_number(tiles.len() / 9)
+}
+
+fn tile_number(number: usize) -> bool {
+    number < 1 || number > MAX_TILES
+}
+
+fn count(count: u32) -> bool {
+    count < 1 || count > MAX_COLOURS
+}
+
+fn byte_cells(cells: &[u8], count: u32) -> bool {
+    cells.iter().any(|&cell| u32::from(cell) > count)
+}
+
+fn pieces_cells(pieces: &[u32], count: u32) -> bool {
+    pieces.iter().any(|&stored| stored == 0 || u64::from(stored) > u64::from(count) + 1)
+}
+
+fn weights_cells(weights: &[u32]) -> bool {
+    weights.iter().any(|&weight| weight > MAX_WEIGHT)
+}
+
+fn counts_cells(counts: &[u32], number: usize) -> bool {
+    counts.iter().any(|&fits| fits as usize > number)
+}
+
+fn marks(set: TileBitset) -> bool {
+    set.size < 32 && set.bits >> set.size != 0
+}
+
+/// NaN or below zero; -0.0 is not below zero.
+fn numbers(floats: &[f64]) -> bool {
+    floats.iter().any(|float| float.is_nan() || *float < 0.0)
+}
+
+fn finite_numbers(floats: &[f64]) -> bool {
+    numbers(floats) || floats.iter().any(|float| float.is_infinite())
+}
+
+fn wall(world: World) -> bool {
+    [world.0, world.1].iter().any(|coordinate| !(-1_000_000..=1_000_000).contains(coordinate))
+}
+
+fn offset(offset: Offset) -> bool {
+    [offset.0, offset.1].iter().any(|part| !(-999_937..=1_000_000).contains(part))
+}
+
+fn corners(bounds: BoundingBox) -> bool {
+    wall(bounds.min) || wall(bounds.max)
+}
+
+/// The cell of a wall coordinate, if it is on the board.
+pub fn cell_of(rows: usize, cols: usize, world: World, offset: Offset) -> Option<Cell> {
+    let row = usize::try_from(i64::from(world.0) + i64::from(offset.0)).ok().filter(|&row| row < rows)?;
+    let col = usize::try_from(i64::from(world.1) + i64::from(offset.1)).ok().filter(|&col| col < cols)?;
+    Some(Cell(row, col))
+}
+
+fn place(rows: usize, cols: usize, world: World, given: Offset) -> bool {
+    wall(world) || offset(given) || cell_of(rows, cols, world, given).is_none()
+}
+
+// ---- places
+
+pub fn get_region_spans(given: Offset, world: World, reach: usize) -> Option<Refusal> {
+    lowest(&[(radius(reach), SHAPE), (wall(world) || offset(given), PLACE)])
+}
+
+pub fn contains(bounds: BoundingBox, world: World) -> Option<Refusal> {
+    lowest(&[(corners(bounds) || wall(world), PLACE)])
+}
+
+pub fn extension(
+    rows: usize,
+    cols: usize,
+    given: Offset,
+    world: World,
+    reach: usize,
+    bounds: Option<BoundingBox>,
+) -> Option<Refusal> {
+    lowest(&[
+        (sides(rows, cols) || radius(reach), SHAPE),
+        (wall(world) || offset(given) || bounds.is_some_and(corners), PLACE),
+    ])
+}
+
+/// The sides that the pads make, or `usize::MAX` where they pass it.
+pub fn padded(rows: usize, cols: usize, pads: Pads) -> (usize, usize) {
+    let sum = |a: usize, b: usize, c: usize| a.saturating_add(b).saturating_add(c);
+    (sum(pads.left, rows, pads.right), sum(pads.top, cols, pads.bottom))
+}
+
+fn copy(plane: usize, rows: usize, cols: usize, pads: Pads, target: usize) -> [(bool, Refusal); 2] {
+    let (new_rows, new_cols) = padded(rows, cols, pads);
+    [
+        (sides(rows, cols) || sides(new_rows, new_cols), SHAPE),
+        (length(plane, &[rows, cols]) || length(target, &[new_rows, new_cols]), LENGTH),
+    ]
+}
+
+pub fn copy_u32(plane: &[u32], rows: usize, cols: usize, pads: Pads, target: &[u32]) -> Option<Refusal> {
+    lowest(&copy(plane.len(), rows, cols, pads, target.len()))
+}
+
+pub fn copy_f64(plane: &[f64], rows: usize, cols: usize, pads: Pads, target: &[f64]) -> Option<Refusal> {
+    let [shape, length] = copy(plane.len(), rows, cols, pads, target.len());
+    lowest(&[shape, length, (numbers(plane), NUMBER)])
+}
+
+// ---- sets
+
+pub fn set_size(size: u32) -> Option<Refusal> {
+    lowest(&[(count(size), COUNT)])
+}
+
+pub fn set(given: TileBitset) -> Option<Refusal> {
+    lowest(&[(count(given.size), COUNT), (marks(given), CELL)])
+}
+
+pub fn sets(given: TileBitset, other: TileBitset) -> Option<Refusal> {
+    lowest(&[
+        (count(given.size) || count(other.size) || given.size != other.size, COUNT),
+        (marks(given) || marks(other), CELL),
+    ])
+}
+
+// ---- tiles
+
+/// All but ROOM.
+pub fn extract_tiles(sample: &[u8], rows: usize, cols: usize, colours: u32) -> Option<Refusal> {
+    lowest(&[
+        (rows < 1 || cols < 1 || rows > MAX_SAMPLE_SIDE || cols > MAX_SAMPLE_SIDE, SHAPE),
+        (length(sample.len(), &[rows, cols]), LENGTH),
+        (count(colours), COUNT),
+        (byte_cells(sample, colours), CELL),
+    ])
+}
+
+pub fn membership(tile: [u8; 9], colours: u32) -> Option<Refusal> {
+    lowest(&[(count(colours), COUNT), (byte_cells(&tile, colours), CELL)])
+}
+
+// ---- fit, the board
+
+/// What all calls that read pieces and tiles have in common.
+fn laid(pieces: &[u32], rows: usize, cols: usize, tiles: &[u8], colours: u32) -> [(bool, Refusal); 4] {
+    [
+        (sides(rows, cols), SHAPE),
+        (length(pieces.len(), &[rows, cols]) || tile_list(tiles), LENGTH),
+        (count(colours), COUNT),
+        (byte_cells(tiles, colours) || pieces_cells(pieces, colours), CELL),
+    ]
+}
+
+pub fn region_count(
+    pieces: &[u32],
+    rows: usize,
+    cols: usize,
+    tiles: &[u8],
+    colours: u32,
+    start: Cell,
+) -> Option<Refusal> {
+    let [a, b, c, d] = laid(pieces, rows, cols, tiles, colours);
+    lowest(&[a, b, c, d, (start.0 >= rows || start.1 >= cols, PLACE)])
+}
+
+pub fn listing(
+    pieces: &[u32],
+    rows: usize,
+    cols: usize,
+    tiles: &[u8],
+    colours: u32,
+    world: World,
+    given: Offset,
+    bounds: Option<BoundingBox>,
+) -> Option<Refusal> {
+    let [a, b, c, d] = laid(pieces, rows, cols, tiles, colours);
+    lowest(&[a, b, c, d, (place(rows, cols, world, given) || bounds.is_some_and(corners), PLACE)])
+}
+
+pub fn scan(
+    pieces: &[u32],
+    weights: &[u32],
+    rows: usize,
+    cols: usize,
+    tiles: &[u8],
+    colours: u32,
+) -> Option<Refusal> {
+    let [a, b, c, d] = laid(pieces, rows, cols, tiles, colours);
+    lowest(&[a, b, c, d, (length(weights.len(), &[rows, cols]), LENGTH), (weights_cells(weights), CELL)])
+}
+
+pub fn weights(weights: &[u32], rows: usize, cols: usize, world: World, given: Offset) -> Option<Refusal> {
+    lowest(&[
+        (sides(rows, cols), SHAPE),
+        (length(weights.len(), &[rows, cols]), LENGTH),
+        (weights_cells(weights), CELL),
+        (place(rows, cols, world, given), PLACE),
+    ])
+}
+
+pub fn recount(
+    counts: &[u32],
+    pieces: &[u32],
+    rows: usize,
+    cols: usize,
+    tiles: &[u8],
+    colours: u32,
+    world: World,
+    given: Offset,
+) -> Option<Refusal> {
+    let [a, b, c, d] = laid(pieces, rows, cols, tiles, colours);
+    lowest(&[
+        a,
+        b,
+        c,
+        d,
+        (length(counts.len(), &[rows, cols]), LENGTH),
+        (counts_cells(counts, tiles.len() / 9), CELL),
+        (place(rows, cols, world, given), PLACE),
+    ])
+}
+
+pub fn fresh(
+    pieces: &[u32],
+    weights: &[u32],
+    counts: &[u32],
+    rows: usize,
+    cols: usize,
+    number: usize,
+) -> Option<Refusal> {
+    let wrong = |plane: &[u32]| length(plane.len(), &[rows, cols]);
+    lowest(&[
+        (sides(rows, cols), SHAPE),
+        (wrong(pieces) || wrong(weights) || wrong(counts) || tile_number(number), LENGTH),
+    ])
+}
+
+/// Lay with a colour, lift without.
+pub fn lay_or_lift(
+    pieces: &[u32],
+    weights: &[u32],
+    counts: &[u32],
+    rows: usize,
+    cols: usize,
+    tiles: &[u8],
+    colours: u32,
+    world: World,
+    given: Offset,
+    colour: Option<u32>,
+) -> Option<Refusal> {
+    let [a, b, c, d] = laid(pieces, rows, cols, tiles, colours);
+    let wrong = |plane: &[u32]| length(plane.len(), &[rows, cols]);
+    let stored = cell_of(rows, cols, world, given)
+        .and_then(|cell| cell.0.checked_mul(cols)?.checked_add(cell.1))
+        .and_then(|at| pieces.get(at).copied());
+    lowest(&[
+        a,
+        b,
+        c,
+        d,
+        (wrong(weights) || wrong(counts), LENGTH),
+        (weights_cells(weights) || counts_cells(counts, tiles.len() / 9), CELL),
+        (place(rows, cols, world, given), PLACE),
+        (colour.is_some_and(|colour| colour == 0 || colour > colours), TYPE),
+        (colour.is_some() && stored.is_some_and(|stored| stored > 1), TAKEN),
+        (colour.is_none() && stored.is_some_and(|stored| stored <= 1), BARE),
+    ])
+}
+
+// ---- the queue
+
+fn queue_rules(queue: &ForcedPipeline) -> [(bool, Refusal); 2] {
+    let entries = &queue.entries[..queue.len.min(64)];
+    [(queue.len > 64, SHAPE), (entries.iter().any(|entry| wall(entry.coordinates)), PLACE)]
+}
+
+pub fn queue(queue: &ForcedPipeline) -> Option<Refusal> {
+    lowest(&queue_rules(queue))
+}
+
+pub fn queue_add(queue: &ForcedPipeline, added: &ForcedPositions) -> Option<Refusal> {
+    let [a, b] = queue_rules(queue);
+    let offered = &added.entries[..added.len.min(8)];
+    let mut places: Vec<World> = queue.entries[..queue.len.min(64)].iter().map(|entry| entry.coordinates).collect();
+    let before = places.len();
+    for entry in offered {
+        if !places.contains(&entry.coordinates) {
+            places.push(entry.coordinates);
+        }
+    }
+    let new = places.len() - before;
+    lowest(&[
+        a,
+        b,
+        (added.len > 8, SHAPE),
+        (offered.iter().any(|entry| wall(entry.coordinates)), PLACE),
+        (64 - before < new, ROOM),
+    ])
+}
+
+// ---- fractions, scores, probabilities
+
+pub fn fraction(counts: &[u32], rows: usize, cols: usize, number: usize, cell: Cell) -> Option<Refusal> {
+    lowest(&[
+        (sides(rows, cols), SHAPE),
+        (length(counts.len(), &[rows, cols]) || tile_number(number), LENGTH),
+        (counts_cells(counts, number), CELL),
+        (cell.0 >= rows || cell.1 >= cols, PLACE),
+    ])
+}
+
+fn score(scores: &[f64], counts: &[u32], rows: usize, cols: usize, number: usize) -> [(bool, Refusal); 4] {
+    [
+        (sides(rows, cols), SHAPE),
+        (
+            length(scores.len(), &[rows, cols]) || length(counts.len(), &[rows, cols]) || tile_number(number),
+            LENGTH,
+        ),
+        (counts_cells(counts, number), CELL),
+        (finite_numbers(scores), NUMBER),
+    ]
+}
+
+pub fn lay_score(
+    scores: &[f64],
+    counts: &[u32],
+    rows: usize,
+    cols: usize,
+    number: usize,
+    world: World,
+    given: Offset,
+) -> Option<Refusal> {
+    let [a, b, c, d] = score(scores, counts, rows, cols, number);
+    lowest(&[a, b, c, d, (place(rows, cols, world, given), PLACE)])
+}
+
+pub fn lift_score(
+    scores: &[f64],
+    counts: &[u32],
+    rows: usize,
+    cols: usize,
+    number: usize,
+    row_span: Span,
+    col_span: Span,
+) -> Option<Refusal> {
+    let [a, b, c, d] = score(scores, counts, rows, cols, number);
+    lowest(&[a, b, c, d, (row_span.1 > rows || col_span.1 > cols, SHAPE)])
+}
+
+pub fn normalise(
+    probabilities: &[f64],
+    rows: usize,
+    cols: usize,
+    colours: u32,
+    world: World,
+    given: Offset,
+    out: &[f64],
+) -> Option<Refusal> {
+    lowest(&[
+        (sides(rows, cols), SHAPE),
+        (
+            length(probabilities.len(), &[colours as usize, rows, cols]) || out.len() != colours as usize,
+            LENGTH,
+        ),
+        (count(colours), COUNT),
+        (numbers(probabilities), NUMBER),
+        (wall(world) || offset(given), PLACE),
+    ])
+}
+
+pub fn product(
+    probabilities: &[f64],
+    rows: usize,
+    cols: usize,
+    colours: u32,
+    block: &[f64],
+    block_rows: usize,
+    block_cols: usize,
+    world: World,
+    given: Offset,
+    reach: usize,
+) -> Option<Refusal> {
+    let block_sides = [block_rows, block_cols].iter().any(|side| !(1..=MAX_BLOCK_SIDE).contains(side));
+    lowest(&[
+        (sides(rows, cols) || block_sides || radius(reach), SHAPE),
+        (
+            length(probabilities.len(), &[colours as usize, rows, cols])
+                || length(block.len(), &[colours as usize, block_rows, block_cols]),
+            LENGTH,
+        ),
+        (count(colours), COUNT),
+        (finite_numbers(probabilities) || finite_numbers(block), NUMBER),
+        (place(rows, cols, world, given), PLACE),
+    ])
+}
