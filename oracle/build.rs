@@ -4,7 +4,8 @@
 //! or fields of it are wanted, ONE line is added at the end: an `include!` of src/oracle/reach/NAME.rs, which thereby
 //! stands in the same module as the text and sees its private items. OUT_DIR/text.rs has the `mod` lines.
 //!
-//! The package `uncached` is built by this file too: the same, but for the text's cache.
+//! The package `uncached` is built by this file too: the same, but for the text's cache. A setting that is not a whole
+//! path counts from this file's folder.
 
 use std::path::{Path, PathBuf};
 use std::{env, fs};
@@ -26,15 +27,15 @@ const FILES: [(&str, &str, Option<&str>); 10] = [
 fn main() {
     println!("cargo::rerun-if-env-changed=GREEDYTILE_TEXT");
     println!("cargo::rerun-if-changed=build.rs");
-    let Some(text) = env::var_os("GREEDYTILE_TEXT").map(PathBuf::from) else {
-        stop("GREEDYTILE_TEXT is not set: it names the folder below which src/algorithm/bitset.rs.txt etc. lie");
-    };
     let out = PathBuf::from(env::var_os("OUT_DIR").unwrap());
     let uncached = env::var_os("CARGO_FEATURE_UNCACHED").is_some();
     let mut here = PathBuf::from(env::var_os("CARGO_MANIFEST_DIR").unwrap());
     if uncached {
         here.pop();
     }
+    let Some(text) = env::var_os("GREEDYTILE_TEXT").map(|text| here.join(text)) else {
+        stop("GREEDYTILE_TEXT is not set: it names the folder below which src/algorithm/bitset.rs.txt etc. lie");
+    };
 
     let mut sum = Sum::new();
     let mut tree = String::new();
@@ -64,7 +65,7 @@ fn main() {
     println!("cargo::rustc-env=TEXT_SUM={:016x}", sum.0);
 
     if env::var_os("CARGO_FEATURE_PORT").is_some() {
-        link_port();
+        link_port(&here);
     }
 }
 
@@ -88,9 +89,9 @@ fn bring(text: &Path, out: &Path, group: &str, name: &str, reach: Option<&Path>,
 }
 
 /// GREEDYTILE_PORT names the port's static library, the file itself (libNAME.a).
-fn link_port() {
+fn link_port(here: &Path) {
     println!("cargo::rerun-if-env-changed=GREEDYTILE_PORT");
-    let Some(library) = env::var_os("GREEDYTILE_PORT").map(PathBuf::from) else {
+    let Some(library) = env::var_os("GREEDYTILE_PORT").map(|library| here.join(library)) else {
         stop("GREEDYTILE_PORT is not set: it names the port's static library");
     };
     println!("cargo::rerun-if-changed={}", library.display());

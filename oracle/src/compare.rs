@@ -247,25 +247,26 @@ pub fn run<I: Input>(name: &'static str, share: u64, step: I::Step, plan: &Plan)
     let start = Instant::now();
     let mut tally = Tally { name, ..Tally::default() };
 
-    let judge = |tally: &mut Tally, input: &I, salt: u64, from: &dyn Fn() -> String| match check(input, plan.meddle, salt) {
-        Ok((refused, values)) => {
-            tally.values += values;
-            if let Some(number) = refused {
-                tally.refused[usize::from(number)] += 1;
+    let judge =
+        |tally: &mut Tally, input: &I, salt: u64, from: &dyn Fn() -> String| match check(input, plan.meddle, salt) {
+            Ok((refused, values)) => {
+                tally.values += values;
+                if let Some(number) = refused {
+                    tally.refused[usize::from(number)] += 1;
+                }
             }
-        }
-        Err(first) => {
-            tally.differences += 1;
-            if tally.report.is_none() {
-                tally.report = Some(if plan.first_only {
-                    first
-                } else {
-                    let (smallest, difference) = shrink(input, plan.meddle, salt);
-                    format!("{name}: a difference, from {}\n  {difference}\n  smallest input: {smallest:#?}", from())
-                });
+            Err(first) => {
+                tally.differences += 1;
+                if tally.report.is_none() {
+                    tally.report = Some(if plan.first_only {
+                        first
+                    } else {
+                        let (smallest, difference) = shrink(input, plan.meddle, salt);
+                        format!("{name}: a difference, from {}\n  {difference}\n  smallest input: {smallest:?}", from())
+                    });
+                }
             }
-        }
-    };
+        };
     let stop = |tally: &Tally| plan.first_only && tally.report.is_some();
 
     if plan.small {
@@ -305,18 +306,21 @@ pub fn run<I: Input>(name: &'static str, share: u64, step: I::Step, plan: &Plan)
     tally
 }
 
-/// The input with one to four faults. The lowest speaks, so a least number is drawn first, or the high ones would hardly
-/// be heard.
+/// The input with one to four faults. The lowest number speaks, so of several such inputs that with the highest is taken,
+/// or the high ones would hardly be heard.
 fn spoil<I: Input>(input: &I, random: &mut Random) -> I {
-    let least = 1 + random.below(10) as Refusal;
-    let mut spoilt = input.clone();
-    for _ in 0..8 {
-        spoilt = input.clone();
+    let spoil_once = |random: &mut Random| {
+        let mut spoilt = input.clone();
         for _ in 0..1 + random.below(4) {
             spoilt.spoil(random);
         }
-        if spoilt.refusal().is_some_and(|number| number >= least) {
-            break;
+        spoilt
+    };
+    let mut spoilt = spoil_once(random);
+    for _ in 0..random.pick(&[0, 0, 3, 15]) {
+        let other = spoil_once(random);
+        if other.refusal() > spoilt.refusal() {
+            spoilt = other;
         }
     }
     spoilt

@@ -91,18 +91,14 @@ pub fn radius(random: &mut Random) -> usize {
 
 /// A box; often round a place, sometimes empty.
 pub fn bounds(random: &mut Random, world: World) -> BoundingBox {
-    let mut least = |at: i32| match random.below(5) {
-        0 => random.pick(&[-1_000_000, 1_000_000]),
-        1 => random.within(-1_000_000, 1_000_000),
-        _ => (at + random.within(-3, 1)).clamp(-1_000_000, 1_000_000),
+    let mut corner = |at: i32, outward: i32| match random.below(12) {
+        0 => 1_000_000 * outward,
+        1 => random.pick(&[-1_000_000, 1_000_000]),
+        2 => random.within(-1_000_000, 1_000_000),
+        _ => (at + outward * random.within(-1, 3)).clamp(-1_000_000, 1_000_000),
     };
-    let min = World(least(world.0), least(world.1));
-    let mut most = |at: i32| match random.below(5) {
-        0 => random.pick(&[-1_000_000, 1_000_000]),
-        1 => random.within(-1_000_000, 1_000_000),
-        _ => (at + random.within(-1, 3)).clamp(-1_000_000, 1_000_000),
-    };
-    BoundingBox { min, max: World(most(world.0), most(world.1)) }
+    let (min, max) = (World(corner(world.0, -1), corner(world.1, -1)), World(corner(world.0, 1), corner(world.1, 1)));
+    BoundingBox { min, max }
 }
 
 /// A float that NUMBER lets pass.
@@ -205,10 +201,10 @@ pub struct TileList {
 impl fmt::Debug for TileList {
     fn fmt(&self, f: &mut fmt::Formatter<'_>) -> fmt::Result {
         write!(f, "{} colours, {} tile bytes:", self.count, self.bytes.len())?;
-        for tile in self.bytes.chunks(9).take(20) {
+        for tile in self.bytes.chunks(9).take(40) {
             write!(f, " {}", tile.iter().map(u8::to_string).collect::<Vec<_>>().join(","))?;
         }
-        if self.bytes.len() > 20 * 9 { write!(f, " ..") } else { Ok(()) }
+        if self.bytes.len() > 40 * 9 { write!(f, " ..") } else { Ok(()) }
     }
 }
 
@@ -268,10 +264,11 @@ impl TileList {
         if self.bytes.len() % 9 == 0 && number > 1 {
             lists.push(self.with_bytes(|bytes| bytes.truncate(number / 2 * 9)));
             lists.push(self.with_bytes(|bytes| drop(bytes.drain(..number / 2 * 9))));
-            if number <= 24 {
-                let without = |n: usize| self.with_bytes(|bytes| drop(bytes.drain(n * 9..n * 9 + 9)));
-                lists.extend((0..number).map(without));
-            }
+            // without one of sixteen parts, which are single tiles in the end
+            let part = (number / 16).max(1);
+            let without =
+                |from: usize| self.with_bytes(|bytes| drop(bytes.drain(from * 9..(from + part).min(number) * 9)));
+            lists.extend((0..number).step_by(part).map(without));
         }
         let used = self.bytes.iter().copied().max().unwrap_or(0);
         if u32::from(used.max(1)) < self.count {
@@ -428,7 +425,7 @@ pub fn pieces(random: &mut Random, rows: usize, cols: usize, tiles: &TileList) -
                 }
             }
         }
-        // laid one by one as the oracle lists
+        // laid one by one as the oracle lists, and now and then one more as it may not
         _ => {
             let mut job = tiles.job();
             let mut board = Board::with_pieces(&pieces, [rows, cols]);
@@ -441,6 +438,9 @@ pub fn pieces(random: &mut Random, rows: usize, cols: usize, tiles: &TileList) -
                         board = Board::with_pieces(&pieces, [rows, cols]);
                     }
                 }
+            }
+            if random.percent(30) {
+                pieces[random.below(cells)] = colour(random) + 1;
             }
         }
     }
@@ -549,8 +549,8 @@ pub fn plainer<T: Copy + PartialEq>(plane: &[T], value: T) -> Vec<Vec<T>> {
 
 /// Numbers nearer to 0.
 pub fn nearer(number: i32) -> Vec<i32> {
-    let mut smaller = vec![0, number / 2, number - number.signum()];
-    smaller.retain(|&other| other != number);
+    let mut smaller = vec![0, number.signum(), 2 * number.signum(), number / 2, number - number.signum()];
+    smaller.retain(|&other| other.unsigned_abs() < number.unsigned_abs());
     smaller
 }
 

@@ -6,6 +6,7 @@ mod inputs;
 mod outcome;
 mod random;
 mod refusals;
+mod speed;
 
 #[cfg(feature = "port")]
 mod port;
@@ -31,7 +32,8 @@ const USE: &str = "differential: the text and the port on the same inputs
   --no-faults    without spoilt inputs
   --list         names the steps and the mutants
   --mutant NAME  disturbs the port's side of one comparison; a difference must show
-  --mutants      each mutant in turn; fails unless every one is seen";
+  --mutants      each mutant in turn; fails unless every one is seen
+  --speed        times both sides, as Markdown; --colours N only those cases (4, 12, 30)";
 
 struct Options {
     plan: Plan,
@@ -39,11 +41,15 @@ struct Options {
     mutant: Option<String>,
     mutants: bool,
     list: bool,
+    speed: bool,
+    colours: Option<u32>,
 }
 
 fn options() -> Result<Options, String> {
-    let plan = Plan { seed: 1, inputs: 1_000, meddle: None, first_only: false, small: true, random: true, faults: true };
-    let mut options = Options { plan, steps: Vec::new(), mutant: None, mutants: false, list: false };
+    let plan =
+        Plan { seed: 1, inputs: 1_000, meddle: None, first_only: false, small: true, random: true, faults: true };
+    let mut options =
+        Options { plan, steps: Vec::new(), mutant: None, mutants: false, list: false, speed: false, colours: None };
     let mut words = std::env::args().skip(1);
     while let Some(word) = words.next() {
         let mut value = || words.next().ok_or(format!("{word} wants a value"));
@@ -58,6 +64,8 @@ fn options() -> Result<Options, String> {
             "--mutant" => options.mutant = Some(value()?),
             "--mutants" => options.mutants = true,
             "--list" => options.list = true,
+            "--speed" => options.speed = true,
+            "--colours" => options.colours = Some(number(value()?)? as u32),
             _ => return Err(USE.into()),
         }
     }
@@ -80,6 +88,10 @@ fn main() -> ExitCode {
         }
     };
     println!("{}; text {}", if cfg!(feature = "port") { "the port" } else { MODEL }, oracle::TEXT_SUM);
+    if options.speed {
+        speed::report(options.plan.seed, options.colours);
+        return ExitCode::SUCCESS;
+    }
     // a panic of either side is reported as a difference, or its place would be lost in the noise of the shrinking
     std::panic::set_hook(Box::new(|panic| {
         if std::env::var_os("RUST_BACKTRACE").is_some_and(|wanted| wanted == "full") {
@@ -98,7 +110,8 @@ fn main() -> ExitCode {
     if fine { ExitCode::SUCCESS } else { ExitCode::FAILURE }
 }
 
-const MODEL: &str = "built without the port: src/model.rs stands in its place, so this tries the driver and says nothing of the port";
+const MODEL: &str =
+    "built without the port: src/model.rs stands in its place, so this tries the driver and says nothing of the port";
 
 fn list(steps: &[Named]) -> bool {
     println!("steps: {}", steps.iter().map(|step| step.name).collect::<Vec<_>>().join(" "));
@@ -194,7 +207,11 @@ fn mutants(steps: &[Named], plan: &Plan) -> bool {
         let by: Vec<&str> =
             steps.iter().filter(|step| (step.run)(&plan).differences > 0).map(|step| step.name).collect();
         println!("model:{slip:?} seen by {}", by.join(" "));
-        if by.is_empty() { unseen.push(format!("model:{slip:?}")) } else { seen += 1 }
+        if by.is_empty() {
+            unseen.push(format!("model:{slip:?}"))
+        } else {
+            seen += 1
+        }
         model::set_slip(None);
     }
     println!("mutants: {seen} seen, {} not seen, in {:.0} s", unseen.len(), start.elapsed().as_secs_f64());
@@ -213,4 +230,38 @@ fn mutant(steps: &[Named], plan: &Plan, wanted: &str) -> bool {
         return false;
     };
     compare_all(std::slice::from_ref(step), &with_meddle(plan, meddle))
+}
+
+/// The driver itself, on the model.
+#[cfg(all(test, not(feature = "port")))]
+mod tests {
+    use super::*;
+
+    const PLAN: Plan =
+        Plan { seed: 7, inputs: 20, meddle: None, first_only: false, small: false, random: true, faults: true };
+
+    #[test]
+    fn no_difference() {
+        assert!(compare_all(&compare::all(), &PLAN));
+    }
+
+    #[test]
+    fn every_mutant_is_seen() {
+        let steps = compare::all();
+        for (name, step, meddle) in meddles(&steps) {
+            let plan = Plan { first_only: true, inputs: 300, ..with_meddle(&PLAN, meddle) };
+            assert!((step.run)(&plan).differences > 0, "{name} is not seen");
+        }
+    }
+
+    /// A difference is told with an input that cannot be made smaller.
+    #[test]
+    fn shrinks() {
+        model::set_slip(Some(model::Slip::SkipBottomWindows));
+        let steps = compare::all();
+        let listing = steps.iter().find(|step| step.name == "listing").unwrap();
+        let report = (listing.run)(&Plan { inputs: 100, ..PLAN }).report.unwrap();
+        model::set_slip(None);
+        assert!(report.contains("rows: 1, cols: 1"), "{report}");
+    }
 }

@@ -349,14 +349,7 @@ fn fit_count(pattern: &[u32; 9], tiles: &[u8]) -> u32 {
     tiles.chunks_exact(9).filter(|tile| fits(pattern, tile)).count() as u32
 }
 
-pub fn region_count(
-    pieces: &[u32],
-    rows: usize,
-    cols: usize,
-    tiles: &[u8],
-    count: u32,
-    start: Cell,
-) -> Answer<usize> {
+pub fn region_count(pieces: &[u32], rows: usize, cols: usize, tiles: &[u8], count: u32, start: Cell) -> Answer<usize> {
     unless(refusals::region_count(pieces, rows, cols, tiles, count, start), || {
         fit_count(&pattern(pieces, rows, cols, start.0, start.1), tiles) as usize
     })
@@ -611,8 +604,7 @@ pub fn lay(
     offset: Offset,
     colour: u32,
 ) -> Answer<()> {
-    let refused =
-        refusals::lay_or_lift(pieces, weights, counts, rows, cols, tiles, count, world, offset, Some(colour));
+    let refused = refusals::lay_or_lift(pieces, weights, counts, rows, cols, tiles, count, world, offset, Some(colour));
     unless(refused, || {
         let cell = refusals::cell_of(rows, cols, world, offset).unwrap();
         pieces[cell.0 * cols + cell.1] = colour + 1;
@@ -655,9 +647,7 @@ pub fn normalise(
 ) -> Answer<()> {
     unless(refusals::normalise(probabilities, rows, cols, count, world, offset, out), || {
         let cell = refusals::cell_of(rows, cols, world, offset);
-        let at = |colour: usize| {
-            cell.map_or(0.0, |cell| probabilities[colour * rows * cols + cell.0 * cols + cell.1])
-        };
+        let at = |colour: usize| cell.map_or(0.0, |cell| probabilities[colour * rows * cols + cell.0 * cols + cell.1]);
         let given: Vec<f64> = (0..count as usize).map(at).collect();
         let largest = given.iter().fold(0.0, |largest, &p| if largest < p { p } else { largest });
         let unusable = largest == 0.0 || largest.is_infinite() && !slips(Slip::InfiniteLargestDivides);
@@ -704,9 +694,8 @@ pub fn product(
     offset: Offset,
     radius: usize,
 ) -> Answer<()> {
-    let refused = refusals::product(
-        probabilities, rows, cols, count, block, block_rows, block_cols, world, offset, radius,
-    );
+    let refused =
+        refusals::product(probabilities, rows, cols, count, block, block_rows, block_cols, world, offset, radius);
     unless(refused, || {
         for (cell, (i, j)) in region(rows, cols, world, offset, radius) {
             for colour in 0..count as usize {
@@ -736,9 +725,8 @@ pub fn quotient(
     offset: Offset,
     radius: usize,
 ) -> Answer<()> {
-    let refused = refusals::product(
-        probabilities, rows, cols, count, block, block_rows, block_cols, world, offset, radius,
-    );
+    let refused =
+        refusals::product(probabilities, rows, cols, count, block, block_rows, block_cols, world, offset, radius);
     unless(refused, || {
         for (cell, (i, j)) in region(rows, cols, world, offset, radius) {
             for colour in 0..count as usize {
@@ -807,8 +795,7 @@ pub fn lift_score(
             for col in col_span.0..col_span.1 {
                 let shift = usize::from(slips(Slip::LiftScoreCentred));
                 let corner = Cell(row + shift, col + shift);
-                scores[row * cols + col] =
-                    mean(counts, rows, cols, number, corner, !slips(Slip::LiftScoreUnsquared));
+                scores[row * cols + col] = mean(counts, rows, cols, number, corner, !slips(Slip::LiftScoreUnsquared));
             }
         }
     })

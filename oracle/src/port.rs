@@ -6,6 +6,7 @@
 
 use crate::calls::*;
 
+#[rustfmt::skip]
 unsafe extern "C" {
     // out: row start, row end, column start, column end
     fn port_get_region_spans(
@@ -178,8 +179,7 @@ pub fn get_region_spans(offset: Offset, world: World, radius: usize) -> Answer<(
 pub fn contains(bounds: BoundingBox, world: World) -> Answer<bool> {
     let BoundingBox { min, max } = bounds;
     let mut out = [0u32; 1];
-    let refused =
-        unsafe { port_contains(min.0, min.1, max.0, max.1, world.0, world.1, out.as_mut_ptr(), out.len()) };
+    let refused = unsafe { port_contains(min.0, min.1, max.0, max.1, world.0, world.1, out.as_mut_ptr(), out.len()) };
     answer(refused, out[0] == 1)
 }
 
@@ -202,8 +202,19 @@ pub fn calculate_extension(
     let (mut pads, mut new_offset, mut needed) = ([0; 4], [0; 2], [0; 1]);
     let refused = unsafe {
         port_calculate_extension(
-            rows, cols, offset.0, offset.1, world.0, world.1, radius,
-            pads.as_mut_ptr(), 4, new_offset.as_mut_ptr(), 2, needed.as_mut_ptr(), 1,
+            rows,
+            cols,
+            offset.0,
+            offset.1,
+            world.0,
+            world.1,
+            radius,
+            pads.as_mut_ptr(),
+            4,
+            new_offset.as_mut_ptr(),
+            2,
+            needed.as_mut_ptr(),
+            1,
         )
     };
     answer(refused, extension(pads, new_offset, needed))
@@ -221,8 +232,23 @@ pub fn constrained_extension(
     let (mut pads, mut new_offset, mut needed) = ([0; 4], [0; 2], [0; 1]);
     let refused = unsafe {
         port_constrained_extension(
-            rows, cols, offset.0, offset.1, world.0, world.1, radius, min.0, min.1, max.0, max.1,
-            pads.as_mut_ptr(), 4, new_offset.as_mut_ptr(), 2, needed.as_mut_ptr(), 1,
+            rows,
+            cols,
+            offset.0,
+            offset.1,
+            world.0,
+            world.1,
+            radius,
+            min.0,
+            min.1,
+            max.0,
+            max.1,
+            pads.as_mut_ptr(),
+            4,
+            new_offset.as_mut_ptr(),
+            2,
+            needed.as_mut_ptr(),
+            1,
         )
     };
     answer(refused, extension(pads, new_offset, needed))
@@ -232,7 +258,16 @@ pub fn extend_array_2d_u32(plane: &[u32], rows: usize, cols: usize, pads: Pads, 
     let Pads { left, right, top, bottom } = pads;
     let refused = unsafe {
         port_extend_u32(
-            plane.as_ptr(), plane.len(), rows, cols, left, right, top, bottom, target.as_mut_ptr(), target.len(),
+            plane.as_ptr(),
+            plane.len(),
+            rows,
+            cols,
+            left,
+            right,
+            top,
+            bottom,
+            target.as_mut_ptr(),
+            target.len(),
         )
     };
     answer(refused, ())
@@ -242,7 +277,16 @@ pub fn extend_array_2d_f64(plane: &[f64], rows: usize, cols: usize, pads: Pads, 
     let Pads { left, right, top, bottom } = pads;
     let refused = unsafe {
         port_extend_f64(
-            plane.as_ptr(), plane.len(), rows, cols, left, right, top, bottom, target.as_mut_ptr(), target.len(),
+            plane.as_ptr(),
+            plane.len(),
+            rows,
+            cols,
+            left,
+            right,
+            top,
+            bottom,
+            target.as_mut_ptr(),
+            target.len(),
         )
     };
     answer(refused, ())
@@ -280,8 +324,7 @@ pub fn set_contains(given: TileBitset, colour: u32) -> Answer<bool> {
 
 pub fn set_intersection(given: TileBitset, other: TileBitset) -> Answer<TileBitset> {
     let mut out = [0; 2];
-    let refused =
-        unsafe { port_set_intersection(given.bits, given.size, other.bits, other.size, out.as_mut_ptr(), 2) };
+    let refused = unsafe { port_set_intersection(given.bits, given.size, other.bits, other.size, out.as_mut_ptr(), 2) };
     answer(refused, set(out))
 }
 
@@ -299,8 +342,7 @@ pub fn set_count(given: TileBitset) -> Answer<usize> {
 
 pub fn set_to_vec(given: TileBitset) -> Answer<ColourList> {
     let (mut colours, mut len) = ([0; 30], [0; 1]);
-    let refused =
-        unsafe { port_set_to_vec(given.bits, given.size, colours.as_mut_ptr(), 30, len.as_mut_ptr(), 1) };
+    let refused = unsafe { port_set_to_vec(given.bits, given.size, colours.as_mut_ptr(), 30, len.as_mut_ptr(), 1) };
     answer(refused, ColourList { colours, len: len[0] as usize })
 }
 
@@ -318,8 +360,17 @@ pub fn extract_tiles(
     let mut out = [0; 1];
     let refused = unsafe {
         port_extract_tiles(
-            sample.as_ptr(), sample.len(), rows, cols, count, rotations, reflections, store.as_mut_ptr(), store.len(),
-            out.as_mut_ptr(), 1,
+            sample.as_ptr(),
+            sample.len(),
+            rows,
+            cols,
+            count,
+            rotations,
+            reflections,
+            store.as_mut_ptr(),
+            store.len(),
+            out.as_mut_ptr(),
+            1,
         )
     };
     answer(refused, out[0] as usize)
@@ -345,19 +396,21 @@ pub fn membership(tile: [u8; 9], count: u32) -> Answer<TileBitset> {
 
 // ---- fit
 
-pub fn region_count(
-    pieces: &[u32],
-    rows: usize,
-    cols: usize,
-    tiles: &[u8],
-    count: u32,
-    start: Cell,
-) -> Answer<usize> {
+pub fn region_count(pieces: &[u32], rows: usize, cols: usize, tiles: &[u8], count: u32, start: Cell) -> Answer<usize> {
     let mut out = [0; 1];
     let refused = unsafe {
         port_region_count(
-            pieces.as_ptr(), pieces.len(), rows, cols, tiles.as_ptr(), tiles.len(), count, start.0, start.1,
-            out.as_mut_ptr(), 1,
+            pieces.as_ptr(),
+            pieces.len(),
+            rows,
+            cols,
+            tiles.as_ptr(),
+            tiles.len(),
+            count,
+            start.0,
+            start.1,
+            out.as_mut_ptr(),
+            1,
         )
     };
     answer(refused, out[0] as usize)
@@ -383,8 +436,19 @@ pub fn listing(
     let mut out = [0; 2];
     let refused = unsafe {
         port_listing(
-            pieces.as_ptr(), pieces.len(), rows, cols, tiles.as_ptr(), tiles.len(), count, world.0, world.1,
-            offset.0, offset.1, out.as_mut_ptr(), 2,
+            pieces.as_ptr(),
+            pieces.len(),
+            rows,
+            cols,
+            tiles.as_ptr(),
+            tiles.len(),
+            count,
+            world.0,
+            world.1,
+            offset.0,
+            offset.1,
+            out.as_mut_ptr(),
+            2,
         )
     };
     answer(refused, set(out))
@@ -405,9 +469,28 @@ pub fn forced(
     let (mut coordinates, mut colours, mut len) = ([0; 16], [0; 8], [0; 1]);
     let refused = unsafe {
         port_forced(
-            pieces.as_ptr(), pieces.len(), rows, cols, tiles.as_ptr(), tiles.len(), count, world.0, world.1,
-            offset.0, offset.1, bounds.is_some(), min.0, min.1, max.0, max.1,
-            coordinates.as_mut_ptr(), 16, colours.as_mut_ptr(), 8, len.as_mut_ptr(), 1,
+            pieces.as_ptr(),
+            pieces.len(),
+            rows,
+            cols,
+            tiles.as_ptr(),
+            tiles.len(),
+            count,
+            world.0,
+            world.1,
+            offset.0,
+            offset.1,
+            bounds.is_some(),
+            min.0,
+            min.1,
+            max.0,
+            max.1,
+            coordinates.as_mut_ptr(),
+            16,
+            colours.as_mut_ptr(),
+            8,
+            len.as_mut_ptr(),
+            1,
         )
     };
     answer(refused, ForcedPositions { entries: positions(&coordinates, &colours), len: len[0] as usize })
@@ -449,8 +532,17 @@ pub fn queue_add(given: ForcedPipeline, added: ForcedPositions) -> (Answer<()>, 
     let added: Flat<8, 16> = flat(&added.entries, added.len);
     let refused = unsafe {
         port_queue_add(
-            given.coordinates.as_mut_ptr(), 128, given.colours.as_mut_ptr(), 64, given.len.as_mut_ptr(), 1,
-            added.coordinates.as_ptr(), 16, added.colours.as_ptr(), 8, added.len[0] as usize,
+            given.coordinates.as_mut_ptr(),
+            128,
+            given.colours.as_mut_ptr(),
+            64,
+            given.len.as_mut_ptr(),
+            1,
+            added.coordinates.as_ptr(),
+            16,
+            added.colours.as_ptr(),
+            8,
+            added.len[0] as usize,
         )
     };
     (answer(refused, ()), queue(&given))
@@ -461,8 +553,18 @@ pub fn queue_take(given: ForcedPipeline) -> (Answer<Option<ForcedPosition>>, For
     let (mut taken, mut colour, mut found) = ([0; 2], [0; 1], [0; 1]);
     let refused = unsafe {
         port_queue_take(
-            given.coordinates.as_mut_ptr(), 128, given.colours.as_mut_ptr(), 64, given.len.as_mut_ptr(), 1,
-            taken.as_mut_ptr(), 2, colour.as_mut_ptr(), 1, found.as_mut_ptr(), 1,
+            given.coordinates.as_mut_ptr(),
+            128,
+            given.colours.as_mut_ptr(),
+            64,
+            given.len.as_mut_ptr(),
+            1,
+            taken.as_mut_ptr(),
+            2,
+            colour.as_mut_ptr(),
+            1,
+            found.as_mut_ptr(),
+            1,
         )
     };
     let entry = ForcedPosition { coordinates: World(taken[0], taken[1]), colour: colour[0] };
@@ -474,7 +576,13 @@ pub fn queue_is_empty(given: ForcedPipeline) -> Answer<bool> {
     let mut out = [0; 1];
     let refused = unsafe {
         port_queue_is_empty(
-            given.coordinates.as_ptr(), 128, given.colours.as_ptr(), 64, given.len[0] as usize, out.as_mut_ptr(), 1,
+            given.coordinates.as_ptr(),
+            128,
+            given.colours.as_ptr(),
+            64,
+            given.len[0] as usize,
+            out.as_mut_ptr(),
+            1,
         )
     };
     answer(refused, out[0] == 1)
@@ -485,7 +593,13 @@ pub fn queue_len(given: ForcedPipeline) -> Answer<usize> {
     let mut out = [0; 1];
     let refused = unsafe {
         port_queue_len(
-            given.coordinates.as_ptr(), 128, given.colours.as_ptr(), 64, given.len[0] as usize, out.as_mut_ptr(), 1,
+            given.coordinates.as_ptr(),
+            128,
+            given.colours.as_ptr(),
+            64,
+            given.len[0] as usize,
+            out.as_mut_ptr(),
+            1,
         )
     };
     answer(refused, out[0] as usize)
@@ -504,8 +618,17 @@ pub fn scan(
     let mut out = [0; 3];
     let refused = unsafe {
         port_scan(
-            pieces.as_ptr(), pieces.len(), weights.as_ptr(), weights.len(), rows, cols, tiles.as_ptr(), tiles.len(),
-            count, out.as_mut_ptr(), 3,
+            pieces.as_ptr(),
+            pieces.len(),
+            weights.as_ptr(),
+            weights.len(),
+            rows,
+            cols,
+            tiles.as_ptr(),
+            tiles.len(),
+            count,
+            out.as_mut_ptr(),
+            3,
         )
     };
     answer(refused, (out[0] == 1).then_some(Cell(out[1] as usize, out[2] as usize)))
@@ -513,18 +636,14 @@ pub fn scan(
 
 pub fn raise_weights(weights: &mut [u32], rows: usize, cols: usize, world: World, offset: Offset) -> Answer<()> {
     let refused = unsafe {
-        port_raise_weights(
-            weights.as_mut_ptr(), weights.len(), rows, cols, world.0, world.1, offset.0, offset.1,
-        )
+        port_raise_weights(weights.as_mut_ptr(), weights.len(), rows, cols, world.0, world.1, offset.0, offset.1)
     };
     answer(refused, ())
 }
 
 pub fn lower_weights(weights: &mut [u32], rows: usize, cols: usize, world: World, offset: Offset) -> Answer<()> {
     let refused = unsafe {
-        port_lower_weights(
-            weights.as_mut_ptr(), weights.len(), rows, cols, world.0, world.1, offset.0, offset.1,
-        )
+        port_lower_weights(weights.as_mut_ptr(), weights.len(), rows, cols, world.0, world.1, offset.0, offset.1)
     };
     answer(refused, ())
 }
@@ -542,8 +661,19 @@ pub fn recount(
 ) -> Answer<()> {
     let refused = unsafe {
         port_recount(
-            counts.as_mut_ptr(), counts.len(), pieces.as_ptr(), pieces.len(), rows, cols, tiles.as_ptr(), tiles.len(),
-            count, world.0, world.1, offset.0, offset.1,
+            counts.as_mut_ptr(),
+            counts.len(),
+            pieces.as_ptr(),
+            pieces.len(),
+            rows,
+            cols,
+            tiles.as_ptr(),
+            tiles.len(),
+            count,
+            world.0,
+            world.1,
+            offset.0,
+            offset.1,
         )
     };
     answer(refused, ())
@@ -559,8 +689,15 @@ pub fn fresh(
 ) -> Answer<()> {
     let refused = unsafe {
         port_fresh(
-            pieces.as_mut_ptr(), pieces.len(), weights.as_mut_ptr(), weights.len(), counts.as_mut_ptr(), counts.len(),
-            rows, cols, number,
+            pieces.as_mut_ptr(),
+            pieces.len(),
+            weights.as_mut_ptr(),
+            weights.len(),
+            counts.as_mut_ptr(),
+            counts.len(),
+            rows,
+            cols,
+            number,
         )
     };
     answer(refused, ())
@@ -581,8 +718,22 @@ pub fn lay(
 ) -> Answer<()> {
     let refused = unsafe {
         port_lay(
-            pieces.as_mut_ptr(), pieces.len(), weights.as_mut_ptr(), weights.len(), counts.as_mut_ptr(), counts.len(),
-            rows, cols, tiles.as_ptr(), tiles.len(), count, world.0, world.1, offset.0, offset.1, colour,
+            pieces.as_mut_ptr(),
+            pieces.len(),
+            weights.as_mut_ptr(),
+            weights.len(),
+            counts.as_mut_ptr(),
+            counts.len(),
+            rows,
+            cols,
+            tiles.as_ptr(),
+            tiles.len(),
+            count,
+            world.0,
+            world.1,
+            offset.0,
+            offset.1,
+            colour,
         )
     };
     answer(refused, ())
@@ -602,8 +753,21 @@ pub fn lift(
 ) -> Answer<()> {
     let refused = unsafe {
         port_lift(
-            pieces.as_mut_ptr(), pieces.len(), weights.as_mut_ptr(), weights.len(), counts.as_mut_ptr(), counts.len(),
-            rows, cols, tiles.as_ptr(), tiles.len(), count, world.0, world.1, offset.0, offset.1,
+            pieces.as_mut_ptr(),
+            pieces.len(),
+            weights.as_mut_ptr(),
+            weights.len(),
+            counts.as_mut_ptr(),
+            counts.len(),
+            rows,
+            cols,
+            tiles.as_ptr(),
+            tiles.len(),
+            count,
+            world.0,
+            world.1,
+            offset.0,
+            offset.1,
         )
     };
     answer(refused, ())
@@ -622,8 +786,17 @@ pub fn normalise(
 ) -> Answer<()> {
     let refused = unsafe {
         port_normalise(
-            probabilities.as_ptr(), probabilities.len(), rows, cols, count, world.0, world.1, offset.0, offset.1,
-            out.as_mut_ptr(), out.len(),
+            probabilities.as_ptr(),
+            probabilities.len(),
+            rows,
+            cols,
+            count,
+            world.0,
+            world.1,
+            offset.0,
+            offset.1,
+            out.as_mut_ptr(),
+            out.len(),
         )
     };
     answer(refused, ())
@@ -644,8 +817,20 @@ pub fn product(
 ) -> Answer<()> {
     let refused = unsafe {
         port_product(
-            probabilities.as_mut_ptr(), probabilities.len(), rows, cols, count, block.as_ptr(), block.len(),
-            block_rows, block_cols, world.0, world.1, offset.0, offset.1, radius,
+            probabilities.as_mut_ptr(),
+            probabilities.len(),
+            rows,
+            cols,
+            count,
+            block.as_ptr(),
+            block.len(),
+            block_rows,
+            block_cols,
+            world.0,
+            world.1,
+            offset.0,
+            offset.1,
+            radius,
         )
     };
     answer(refused, ())
@@ -666,8 +851,20 @@ pub fn quotient(
 ) -> Answer<()> {
     let refused = unsafe {
         port_quotient(
-            probabilities.as_mut_ptr(), probabilities.len(), rows, cols, count, block.as_ptr(), block.len(),
-            block_rows, block_cols, world.0, world.1, offset.0, offset.1, radius,
+            probabilities.as_mut_ptr(),
+            probabilities.len(),
+            rows,
+            cols,
+            count,
+            block.as_ptr(),
+            block.len(),
+            block_rows,
+            block_cols,
+            world.0,
+            world.1,
+            offset.0,
+            offset.1,
+            radius,
         )
     };
     answer(refused, ())
@@ -684,8 +881,17 @@ pub fn lay_score(
 ) -> Answer<()> {
     let refused = unsafe {
         port_lay_score(
-            scores.as_mut_ptr(), scores.len(), counts.as_ptr(), counts.len(), rows, cols, number, world.0, world.1,
-            offset.0, offset.1,
+            scores.as_mut_ptr(),
+            scores.len(),
+            counts.as_ptr(),
+            counts.len(),
+            rows,
+            cols,
+            number,
+            world.0,
+            world.1,
+            offset.0,
+            offset.1,
         )
     };
     answer(refused, ())
@@ -702,8 +908,17 @@ pub fn lift_score(
 ) -> Answer<()> {
     let refused = unsafe {
         port_lift_score(
-            scores.as_mut_ptr(), scores.len(), counts.as_ptr(), counts.len(), rows, cols, number, row_span.0,
-            row_span.1, col_span.0, col_span.1,
+            scores.as_mut_ptr(),
+            scores.len(),
+            counts.as_ptr(),
+            counts.len(),
+            rows,
+            cols,
+            number,
+            row_span.0,
+            row_span.1,
+            col_span.0,
+            col_span.1,
         )
     };
     answer(refused, ())

@@ -213,14 +213,7 @@ pub fn listing(
     lowest(&[a, b, c, d, (place(rows, cols, world, given) || bounds.is_some_and(corners), PLACE)])
 }
 
-pub fn scan(
-    pieces: &[u32],
-    weights: &[u32],
-    rows: usize,
-    cols: usize,
-    tiles: &[u8],
-    colours: u32,
-) -> Option<Refusal> {
+pub fn scan(pieces: &[u32], weights: &[u32], rows: usize, cols: usize, tiles: &[u8], colours: u32) -> Option<Refusal> {
     let [a, b, c, d] = laid(pieces, rows, cols, tiles, colours);
     lowest(&[a, b, c, d, (length(weights.len(), &[rows, cols]), LENGTH), (weights_cells(weights), CELL)])
 }
@@ -348,10 +341,7 @@ pub fn fraction(counts: &[u32], rows: usize, cols: usize, number: usize, cell: C
 fn score(scores: &[f64], counts: &[u32], rows: usize, cols: usize, number: usize) -> [(bool, Refusal); 4] {
     [
         (sides(rows, cols), SHAPE),
-        (
-            length(scores.len(), &[rows, cols]) || length(counts.len(), &[rows, cols]) || tile_number(number),
-            LENGTH,
-        ),
+        (length(scores.len(), &[rows, cols]) || length(counts.len(), &[rows, cols]) || tile_number(number), LENGTH),
         (counts_cells(counts, number), CELL),
         (finite_numbers(scores), NUMBER),
     ]
@@ -394,10 +384,7 @@ pub fn normalise(
 ) -> Option<Refusal> {
     lowest(&[
         (sides(rows, cols), SHAPE),
-        (
-            length(probabilities.len(), &[colours as usize, rows, cols]) || out.len() != colours as usize,
-            LENGTH,
-        ),
+        (length(probabilities.len(), &[colours as usize, rows, cols]) || out.len() != colours as usize, LENGTH),
         (count(colours), COUNT),
         (numbers(probabilities), NUMBER),
         (wall(world) || offset(given), PLACE),
@@ -428,4 +415,53 @@ pub fn product(
         (finite_numbers(probabilities) || finite_numbers(block), NUMBER),
         (place(rows, cols, world, given), PLACE),
     ])
+}
+
+#[cfg(test)]
+mod tests {
+    use super::*;
+
+    /// Document 01's bench: 30 colours pass, 31 gives 3; side 64 passes, 65 gives 1; queue entry 64 passes, 65 gives 10.
+    #[test]
+    fn bench() {
+        let (tile, here, none) = ([0; 9], World(0, 0), Offset(0, 0));
+        let listed = |pieces: &[u32], rows, count| listing(pieces, rows, 1, &tile, count, here, none, None);
+        assert_eq!(listed(&[1], 1, 30), None);
+        assert_eq!(listed(&[1], 1, 31), Some(COUNT));
+        assert_eq!(listed(&[1; 64], 64, 30), None);
+        assert_eq!(listed(&[1; 65], 65, 30), Some(SHAPE));
+
+        let entry = |at: usize| ForcedPosition { coordinates: World(at as i32, 0), colour: 1 };
+        let queue = ForcedPipeline { entries: std::array::from_fn(entry), len: 63 };
+        let added = |len| ForcedPositions { entries: std::array::from_fn(|at| entry(100 + at)), len };
+        assert_eq!(queue_add(&queue, &added(1)), None);
+        assert_eq!(queue_add(&queue, &added(2)), Some(ROOM));
+    }
+
+    /// The lowest number speaks, and -0.0 is a number.
+    #[test]
+    fn order() {
+        let here = World(2_000_000, 0);
+        assert_eq!(
+            lay_or_lift(&[5], &[u32::MAX], &[9, 9], 1, 1, &[9; 9], 31, here, Offset(0, 0), Some(0)),
+            Some(LENGTH)
+        );
+        assert_eq!(lay_or_lift(&[5], &[u32::MAX], &[9], 1, 1, &[9; 9], 31, here, Offset(0, 0), Some(0)), Some(COUNT));
+        assert_eq!(lay_or_lift(&[5], &[u32::MAX], &[9], 1, 1, &[9; 9], 30, here, Offset(0, 0), Some(0)), Some(CELL));
+        assert_eq!(lay_or_lift(&[5], &[1], &[0], 1, 1, &[9; 9], 30, here, Offset(0, 0), Some(0)), Some(PLACE));
+        assert_eq!(lay_or_lift(&[5], &[1], &[0], 1, 1, &[9; 9], 30, World(0, 0), Offset(0, 0), Some(0)), Some(TYPE));
+        assert_eq!(lay_or_lift(&[5], &[1], &[0], 1, 1, &[9; 9], 30, World(0, 0), Offset(0, 0), Some(1)), Some(TAKEN));
+        assert_eq!(lay_or_lift(&[1], &[1], &[0], 1, 1, &[9; 9], 30, World(0, 0), Offset(0, 0), None), Some(BARE));
+        assert_eq!(normalise(&[-0.0], 1, 1, 1, World(0, 0), Offset(0, 0), &[f64::NAN]), None);
+        assert_eq!(normalise(&[f64::INFINITY], 1, 1, 1, World(9, 9), Offset(0, 0), &[0.0]), None);
+        assert_eq!(normalise(&[f64::NAN], 1, 1, 1, World(9, 9), Offset(0, 0), &[0.0]), Some(NUMBER));
+    }
+
+    /// Products of sides that no length reaches.
+    #[test]
+    fn lengths() {
+        assert!(length(0, &[usize::MAX, 2]));
+        assert!(!length(0, &[usize::MAX, 0]));
+        assert!(!length(6, &[2, 3]));
+    }
 }

@@ -24,6 +24,7 @@ fn turned_and_mirrored() {
     assert_eq!(steps::extract(&SQUARE, [3, 3], true, true).len(), 8 * 9);
     assert_eq!(steps::extract(&SQUARE, [3, 3], true, false).len(), 4 * 9);
     assert_eq!(steps::extract(&SQUARE, [3, 3], false, true).len(), 2 * 9);
+    assert_eq!(steps::distinct(&[SQUARE, [0; 9], SQUARE].concat()), [SQUARE, [0; 9]].concat());
 }
 
 #[test]
@@ -48,6 +49,16 @@ fn chequer_listings() {
     assert_eq!(forced.iter().map(|forced| forced.1).collect::<Vec<_>>(), [1, 2, 1, 2, 2, 1, 2, 1]);
     assert_eq!(forced[0].0, [0, 0]);
     assert_eq!(forced[7].0, [2, 2]);
+}
+
+/// The private step behind the listing: one window at a time.
+#[test]
+fn chequer_windows() {
+    let mut job = Job::new(&chequer(), 2);
+    assert_eq!(job.window(&[0; 9], [0, 0]), [1, 2]);
+    assert_eq!(job.window(&[0, 0, 0, 0, 1, 0, 0, 0, 0], [0, 0]), [1]);
+    assert_eq!(job.window(&[0, 0, 0, 0, 1, 0, 0, 0, 0], [0, 1]), [2]);
+    assert_eq!(job.window(&[1, 1, 0, 0, 0, 0, 0, 0, 0], [2, 2]), Vec::<usize>::new());
 }
 
 #[test]

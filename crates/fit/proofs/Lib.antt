@@ -1,3 +1,6 @@
 pub mod Windows
 pub mod Accepted
 pub mod Lists
+pub mod Calls
+pub mod Meaning
+pub mod Coincide

@@ -13,19 +13,19 @@ use native.Mathlib.Nat.{zero-div, lt-of-lt-of-le}
 use native.Mathlib.Omega.{arith}
 use borrow.Author.Tests.{le-leb, lt-leb, ltb-true, ne-eqb}
 use lib.Dec.{leb, ltb, eqb}
-use lib.ListN.{length, getD}
+use lib.ListN.{getD}
 use lib.Pow.{pow-mono}
 use Rattle.base.specs.Counting.{pick, every, some}
 use Rattle.base.specs.Tables.{tab}
 use Rattle.base.proofs.Bools.{never, and-both, and-no-left, and-no-right, by-test}
 use Rattle.base.proofs.Numbers.{row-of, col-of}
-use Rattle.base.proofs.Counted.{every-more, every-at, every-is, every-none, some-more, some-none, some-at, some-is}
+use Rattle.base.proofs.Counted.{every-more, every-at, every-is, every-none, some-more, some-at, some-is}
 use Rattle.rules.specs.Bounds.{maxColours}
 use Rattle.rules.specs.Tests.{tilesIn}
 use Rattle.rules.specs.Sets.{has, bitsOf}
 use Rattle.rules.specs.Grid.{Shape, flat}
 use Rattle.rules.specs.Fit.{pattern, fitsTile, serves, hasFitting, allows, windowOrder, leftAfter, lists}
-use Rattle.sets.proofs.Digits.{bits-lt, bits-ext, bits-has, bits-back, none-is, has-zero}
+use Rattle.sets.proofs.Digits.{bits-lt, bits-ext, bits-has, bits-back, none-is}
 use Rattle.fit.proofs.Windows.{has-ext, read-is}
 
 pub bits-split : (n : ℕ) (f g : ℕ → Bool) → bitsOf n f ≡ bitsOf n (λ t. f t && g t) + bitsOf n (λ t. f t && not (g t))

@@ -5,15 +5,14 @@
 --     fits-ext, count-ext, has-ext   windows that show the same fit the same tiles
 -- Assumes nothing.
 use Prim.Native.Nat.{ℕ, _+_, _-_, _*_, _/_, _%_, _<_, _≤_}
-use mathlib.Core.Path.{_≡_, refl, sym, _∙_, ap}
-use mathlib.Core.Bool.{Bool, true, false, _&&_}
+use mathlib.Core.Path.{_≡_, sym, _∙_, ap}
+use mathlib.Core.Bool.{Bool, _&&_}
 use mathlib.Core.List.{List}
-use native.Mathlib.Nat.{le-of-eq}
 use native.Mathlib.Omega.{arith}
 use borrow.Author.Tests.{lt-ltb, le-ltb}
 use lib.Dec.{ltb, eqb}
 use lib.ListN.{length, getD, List·getD-eq-default}
-use Rattle.base.specs.Counting.{pick, every, some, tally}
+use Rattle.base.specs.Counting.{pick, tally}
 use Rattle.base.specs.Tables.{tab}
 use Rattle.base.proofs.Bools.{and-both, and-no-left, and-no-right, pick-yes, pick-no}
 use Rattle.base.proofs.Numbers.{row-of, col-of}

@@ -1,22 +1,27 @@
 // Document 01, "Fit": how many tiles fit a region, and which colours fit a cell. The text's algorithm/feasibility.rs and the
 // listing of algorithm/selection.rs, by the direct fit test.
 ghost use mathlib.Core.Path.{_≡_};
-ghost use mathlib.Core.Bool.{Bool, true, false, not, _&&_};
+ghost use mathlib.Core.Bool.{true, false, not, _&&_};
 ghost use Prim.Native.Nat.{ℕ, _+_, _*_, _^_, _<_, _≤_};
-ghost use lib.Dec.{eqb};
+ghost use lib.Dec.{eqb, ltb};
 ghost use lib.ListN.{length, getD};
 ghost use Rattle.base.specs.Counting.{pick};
 ghost use Rattle.base.specs.Tables.{tab};
 ghost use Rattle.base.specs.Refusal.{refusal, accepted};
 ghost use Rattle.rules.specs.Grid.{flat, cellNumber, colourOn};
-ghost use Rattle.rules.specs.Bounds.{maxColours};
+ghost use Rattle.rules.specs.Bounds.{maxColours, maxTiles};
 ghost use Rattle.rules.specs.Sets.{has, bitsOf, setOf};
-ghost use Rattle.rules.specs.Fit.{pattern, agrees, fitsTile, fitCount, hasFitting, allows, windowOrder, lists, piecesChecks};
+ghost use Rattle.rules.specs.Fit.{pattern, agrees, fitsTile, fitCount, hasFitting, allows, windowOrder, lists, piecesChecks, listing, regionCount};
+ghost use Rattle.rules.specs.Scores.{fraction, fractionChecks, fractionAt};
 ghost use Rattle.rules.specs.declared.Listing.the-variants.{Colours};
 ghost use Rattle.fit.specs.Ready.{Readable, Countable, Ready, OnGrid, Coloured};
 use rules::Cell;
+use rules::FractionAnswer;
 use rules::Listing;
+use rules::Number;
+use rules::Offset;
 use rules::TileBitset;
+use rules::World;
 
 // The place that the cell has in each of its nine windows, in the text's order: the window centred on the cell, then those centred
 // up, left, right and down of it, then on the corners row by row.
@@ -255,4 +260,109 @@ pub fn viable_tiles_at(
         bits: bits,
         size: count,
     })
+}
+
+// ---- The calls.
+
+// The colours that fit at a place.
+pub fn compute_viable_tiles_at_position(
+    pieces: &[u32],
+    rows: usize,
+    cols: usize,
+    tiles: &[u8],
+    count: u32,
+    position: World,
+    offset: Offset,
+) -> Listing
+    ensures { λ r. ⌜ r ≡ listing (now (pieces .entry)) rows cols (now (tiles .entry)) count position offset ⌝ }
+{
+    let refused = pieces_refused(pieces, rows, cols, tiles, count);
+    if refused != 0 {
+        return Listing::Refused(refused);
+    }
+    let misplaced = places::place_refused(rows, cols, position, offset);
+    if misplaced != 0 {
+        return Listing::Refused(misplaced);
+    }
+    viable_tiles_at(
+        pieces,
+        rows,
+        cols,
+        tiles,
+        count,
+        places::cell_of(position, offset),
+    )
+}
+
+fn on_grid(rows: usize, cols: usize, cell: Cell) -> bool
+    ensures { λ r. ⌜ r ≡ (ltb (cell .0) rows && ltb (cell .1) cols) ⌝ }
+{
+    if cell.0 < rows { cell.1 < cols } else { false }
+}
+
+// How many tiles fit the region that starts at a cell; past the edge it is bare.
+pub fn count_fitting(
+    pieces: &[u32],
+    rows: usize,
+    cols: usize,
+    tiles: &[u8],
+    count: u32,
+    start: Cell,
+) -> Number
+    ensures { λ r. ⌜ r ≡ regionCount (now (pieces .entry)) rows cols (now (tiles .entry)) count start ⌝ }
+{
+    let refused = pieces_refused(pieces, rows, cols, tiles, count);
+    if refused != 0 {
+        return Number::Refused(refused);
+    }
+    if !on_grid(rows, cols, start) {
+        return Number::Refused(rules::PLACE);
+    }
+    Number::Is(fit_count_at(pieces, rows, cols, tiles, start.0, start.1) as usize)
+}
+
+fn fraction_refused(counts: &[u32], rows: usize, cols: usize, tiles: usize, cell: Cell) -> u8
+    ensures { λ r. ⌜ r ≡ refusal (fractionChecks (now (counts .entry)) rows cols tiles cell) ⌝ }
+{
+    if !checks::board_sides(rows, cols) {
+        return rules::SHAPE;
+    }
+    if !checks::words_have_length(counts, checks::cells_of(rows, cols)) {
+        return rules::LENGTH;
+    }
+    if !checks::tile_number_fits(tiles) {
+        return rules::LENGTH;
+    }
+    if !checks::no_word_above(counts, tiles as u32) {
+        return rules::CELL;
+    }
+    if !on_grid(rows, cols, cell) {
+        return rules::PLACE;
+    }
+    0
+}
+
+// One rounded division.
+fn fraction_of(counts: &[u32], tiles: usize, k: usize) -> f64
+    requires { ⌜ (k < length (now counts)) × (tiles ≤ maxTiles) ⌝ }
+    ensures { λ r. ⌜ r ≡ fraction (now (counts .entry)) tiles k ⌝ }
+{
+    counts[k] as f64 / tiles as f64
+}
+
+// The share of the tiles that fits at a cell, by its count.
+pub fn get_fraction(
+    counts: &[u32],
+    rows: usize,
+    cols: usize,
+    tiles: usize,
+    cell: Cell,
+) -> FractionAnswer
+    ensures { λ r. ⌜ r ≡ fractionAt (now (counts .entry)) rows cols tiles cell ⌝ }
+{
+    let refused = fraction_refused(counts, rows, cols, tiles, cell);
+    if refused != 0 {
+        return FractionAnswer::Refused(refused);
+    }
+    FractionAnswer::Is(fraction_of(counts, tiles, cell.0 * cols + cell.1))
 }

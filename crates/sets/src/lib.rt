@@ -1,21 +1,14 @@
-// Sets of colours: the text's algorithm/bitset.rs over 32 bits with their size. Colour t is bit t-1; 0 is no colour and in no set.
+// Sets of colours by their bits, for calls that have made the checks: colour t is bit t-1; 0 is no colour and in no set.
+// What they promise they promise for any number n of bits that holds the set; 32 stands in these few lines and in no law.
 ghost use mathlib.Core.Path.{_≡_};
-ghost use mathlib.Core.Bool.{true, false, _&&_, _||_};
-ghost use Prim.Native.Nat.{ℕ, _+_, _/_, _^_, _<_, _≤_};
+ghost use mathlib.Core.Bool.{true, _&&_, _||_};
+ghost use Prim.Native.Nat.{ℕ, _/_, _^_, _<_, _≤_};
 ghost use lib.Dec.{eqb};
 ghost use lib.ListN.{length};
-ghost use Rattle.base.specs.Refusal.{refusal};
 ghost use Rattle.rules.specs.Bounds.{maxColours};
-ghost use Rattle.rules.specs.Tests.{colourCount};
-ghost use Rattle.rules.specs.Sets.{has, bitsOf, coloursOf, marksWithin, setChecks, setsChecks, emptySet, fullSet, inserted, contained, intersected, emptiness, membersCounted, colourList, membersListed};
+ghost use Rattle.rules.specs.Sets.{has, bitsOf, coloursOf, colourList};
 ghost use Rattle.rules.specs.Forced.{only};
 use rules::ColourList;
-use rules::Number;
-use rules::SetAnswer;
-use rules::TileBitset;
-use rules::Verdict;
-
-// ---- The bits alone, for calls that have made the checks. What they promise holds for any number n of bits that the set has.
 
 // The bit of colour t, and 0 for 0.
 fn colour_bit(t: u32) -> u32
@@ -81,7 +74,7 @@ pub fn only_colour(bits: u32) -> u32
 }
 
 // The members ascending. An entry is written also for a colour that is not in: it gets 0, which it holds already, so no branch is needed.
-fn members(bits: u32, size: u32) -> ColourList
+pub fn members(bits: u32, size: u32) -> ColourList
     requires { ⌜ size ≤ maxColours ⌝ }
     ensures { λ r. ⌜ r ≡ colourList 0 (coloursOf size (has bits)) ⌝ }
 {
@@ -99,147 +92,4 @@ fn members(bits: u32, size: u32) -> ColourList
         colours: colours,
         len: len,
     }
-}
-
-// ---- The calls.
-
-fn marks_within(set: TileBitset) -> bool
-    requires { ⌜ colourCount (set .size) ≡ true ⌝ }
-    ensures { λ r. ⌜ r ≡ marksWithin set ⌝ }
-{
-    set.bits < (1u32 << set.size)
-}
-
-fn set_refusal(set: TileBitset) -> u8
-    ensures { λ r. ⌜ r ≡ refusal (setChecks set) ⌝ }
-{
-    if !checks::colour_count(set.size) {
-        return rules::COUNT;
-    }
-    if !marks_within(set) {
-        return rules::CELL;
-    }
-    0
-}
-
-fn sets_refusal(set: TileBitset, other: TileBitset) -> u8
-    ensures { λ r. ⌜ r ≡ refusal (setsChecks set other) ⌝ }
-{
-    if !checks::colour_count(set.size) {
-        return rules::COUNT;
-    }
-    if set.size != other.size {
-        return rules::COUNT;
-    }
-    if !marks_within(set) {
-        return rules::CELL;
-    }
-    if !marks_within(other) {
-        return rules::CELL;
-    }
-    0
-}
-
-pub fn new(size: u32) -> SetAnswer
-    ensures { λ r. ⌜ r ≡ emptySet size ⌝ }
-{
-    if !checks::colour_count(size) {
-        return SetAnswer::Refused(rules::COUNT);
-    }
-    SetAnswer::Set(TileBitset {
-        bits: 0,
-        size: size,
-    })
-}
-
-pub fn all(size: u32) -> SetAnswer
-    ensures { λ r. ⌜ r ≡ fullSet size ⌝ }
-{
-    if !checks::colour_count(size) {
-        return SetAnswer::Refused(rules::COUNT);
-    }
-    let bits = all_colours(size);
-    SetAnswer::Set(TileBitset {
-        bits: bits,
-        size: size,
-    })
-}
-
-// 0 and a colour past the size are left out, as in the text.
-pub fn insert(set: TileBitset, tile: u32) -> SetAnswer
-    ensures { λ r. ⌜ r ≡ inserted set tile ⌝ }
-{
-    let refused = set_refusal(set);
-    if refused != 0 {
-        return SetAnswer::Refused(refused);
-    }
-    if set.size < tile {
-        return SetAnswer::Set(set);
-    }
-    let bits = with_colour(set.bits, tile);
-    SetAnswer::Set(TileBitset {
-        bits: bits,
-        size: set.size,
-    })
-}
-
-pub fn contains(set: TileBitset, tile: u32) -> Verdict
-    ensures { λ r. ⌜ r ≡ contained set tile ⌝ }
-{
-    let refused = set_refusal(set);
-    if refused != 0 {
-        return Verdict::Refused(refused);
-    }
-    if set.size < tile {
-        return Verdict::Is(false);
-    }
-    Verdict::Is(has_colour(set.bits, tile))
-}
-
-pub fn intersection(set: TileBitset, other: TileBitset) -> SetAnswer
-    ensures { λ r. ⌜ r ≡ intersected set other ⌝ }
-{
-    let refused = sets_refusal(set, other);
-    if refused != 0 {
-        return SetAnswer::Refused(refused);
-    }
-    let bits = common_colours(set.bits, other.bits);
-    SetAnswer::Set(TileBitset {
-        bits: bits,
-        size: set.size,
-    })
-}
-
-pub fn is_empty(set: TileBitset) -> Verdict
-    ensures { λ r. ⌜ r ≡ emptiness set ⌝ }
-{
-    let refused = set_refusal(set);
-    if refused != 0 {
-        return Verdict::Refused(refused);
-    }
-    Verdict::Is(no_colour(set.bits))
-}
-
-pub fn count(set: TileBitset) -> Number
-    ensures { λ r. ⌜ r ≡ membersCounted set ⌝ }
-{
-    let refused = set_refusal(set);
-    if refused != 0 {
-        return Number::Refused(refused);
-    }
-    Number::Is(colours_in(set.bits) as usize)
-}
-
-pub fn to_vec(set: TileBitset) -> ColourList
-    ensures { λ r. ⌜ r ≡ membersListed set ⌝ }
-{
-    let refused = set_refusal(set);
-    if refused != 0 {
-        return ColourList {
-            refused: refused,
-            colours: [0u8; 30],
-            len: 0,
-        };
-    }
-    members(set.bits, set.size)
 }

@@ -51,13 +51,20 @@ fn share_of(distance: usize) -> u32
     0
 }
 
+// The distance of `cell` and (row, col).
+pub fn distance(cell: Cell, row: usize, col: usize) -> usize
+    ensures { λ r. ⌜ r ≡ max (gap (cell .0) row) (gap (cell .1) col) ⌝ }
+{
+    let down = gap_of(cell.0, row);
+    let across = gap_of(cell.1, col);
+    larger(down, across)
+}
+
 // What a piece on `cell` adds at (row, col).
 fn share_at(cell: Cell, row: usize, col: usize) -> u32
     ensures { λ r. ⌜ r ≡ share (max (gap (cell .0) row) (gap (cell .1) col)) ⌝ }
 {
-    let down = gap_of(cell.0, row);
-    let across = gap_of(cell.1, col);
-    share_of(larger(down, across))
+    share_of(distance(cell, row, col))
 }
 
 fn less(n: u32, m: u32) -> u32

@@ -178,9 +178,7 @@ impl BoardInput {
         let cell = [self.cell.0, self.cell.1];
         match self.step {
             Step::RegionCount => (whole(self.tiles.job().region_count(&self.pieces, sides, cell)), Vec::new()),
-            Step::Fraction => {
-                (vec![Value::Float(steps::fraction(&self.counts, sides, self.number, cell))], Vec::new())
-            }
+            Step::Fraction => (vec![Value::Float(steps::fraction(&self.counts, sides, self.number, cell))], Vec::new()),
             Step::Listing => {
                 let board = Board::with_pieces(&self.pieces, sides);
                 let mut job = self.tiles.job();
@@ -276,20 +274,20 @@ impl Input for BoardInput {
     type Step = Step;
 
     const STEPS: &'static [(&'static str, u64, Step)] = &[
-        ("region-count", 200, Step::RegionCount),
-        ("fraction", 200, Step::Fraction),
-        ("listing", 300, Step::Listing),
-        ("forced", 150, Step::Forced),
-        ("boxed-forced", 150, Step::BoxedForced),
-        ("scan", 50, Step::Scan),
-        ("weights-up", 300, Step::Raise),
-        ("weights-down", 300, Step::Lower),
-        ("recount", 100, Step::Recount),
-        ("fresh", 50, Step::Fresh),
-        ("lay", 100, Step::Lay),
-        ("lift", 100, Step::Lift),
-        ("lay-score", 150, Step::LayScore),
-        ("lift-score", 150, Step::LiftScore),
+        ("region-count", 500, Step::RegionCount),
+        ("fraction", 300, Step::Fraction),
+        ("listing", 1000, Step::Listing),
+        ("forced", 500, Step::Forced),
+        ("boxed-forced", 500, Step::BoxedForced),
+        ("scan", 200, Step::Scan),
+        ("weights-up", 400, Step::Raise),
+        ("weights-down", 400, Step::Lower),
+        ("recount", 400, Step::Recount),
+        ("fresh", 100, Step::Fresh),
+        ("lay", 500, Step::Lay),
+        ("lift", 500, Step::Lift),
+        ("lay-score", 400, Step::LayScore),
+        ("lift-score", 400, Step::LiftScore),
     ];
 
     fn uses_tiles(step: Step) -> bool {
@@ -545,10 +543,7 @@ impl Input for BoardInput {
                     counts: words(&self.counts),
                     scores: cut.plane(&self.scores, self.rows, self.cols),
                     // the same cell, if it is still there
-                    offset: Offset(
-                        self.offset.0.saturating_sub(row as i32),
-                        self.offset.1.saturating_sub(col as i32),
-                    ),
+                    offset: Offset(self.offset.0.saturating_sub(row as i32), self.offset.1.saturating_sub(col as i32)),
                     cell: Cell(self.cell.0.saturating_sub(row), self.cell.1.saturating_sub(col)),
                     row_span: Span(self.row_span.0.saturating_sub(row), self.row_span.1.min(rows)),
                     col_span: Span(self.col_span.0.saturating_sub(col), self.col_span.1.min(cols)),
@@ -576,10 +571,11 @@ impl Input for BoardInput {
             let counts = self.counts.iter().map(|&count| count.min(number as u32)).collect();
             all.push(Self { number, counts, ..self.clone() });
         }
-        all.extend(inputs::fewer(self.colour as usize).into_iter().map(|colour| Self {
-            colour: colour as u32,
-            ..self.clone()
-        }));
+        all.extend(
+            inputs::fewer(self.colour as usize)
+                .into_iter()
+                .map(|colour| Self { colour: colour as u32, ..self.clone() }),
+        );
         if self.step == Step::LiftScore {
             let Self { row_span, col_span, .. } = *self;
             let spans = [
@@ -622,9 +618,7 @@ impl Input for BoardInput {
         let mut scores = Lent::new(&self.scores);
         let done = |answer: Answer<()>| answer.map(|()| Vec::new());
         let answer = match step {
-            Step::RegionCount => {
-                side::region_count(pieces.cells(), rows, cols, tiles.cells(), count, cell).map(whole)
-            }
+            Step::RegionCount => side::region_count(pieces.cells(), rows, cols, tiles.cells(), count, cell).map(whole),
             Step::Fraction => {
                 side::fraction(counts.cells(), rows, cols, number, cell).map(|fraction| vec![Value::Float(fraction)])
             }
@@ -639,24 +633,12 @@ impl Input for BoardInput {
             }
             Step::Raise => done(side::raise_weights(weights.cells_mut(), rows, cols, world, offset)),
             Step::Lower => done(side::lower_weights(weights.cells_mut(), rows, cols, world, offset)),
-            Step::Recount => done(side::recount(
-                counts.cells_mut(),
-                pieces.cells(),
-                rows,
-                cols,
-                tiles.cells(),
-                count,
-                world,
-                offset,
-            )),
-            Step::Fresh => done(side::fresh(
-                pieces.cells_mut(),
-                weights.cells_mut(),
-                counts.cells_mut(),
-                rows,
-                cols,
-                number,
-            )),
+            Step::Recount => {
+                done(side::recount(counts.cells_mut(), pieces.cells(), rows, cols, tiles.cells(), count, world, offset))
+            }
+            Step::Fresh => {
+                done(side::fresh(pieces.cells_mut(), weights.cells_mut(), counts.cells_mut(), rows, cols, number))
+            }
             Step::Lay => done(side::lay(
                 pieces.cells_mut(),
                 weights.cells_mut(),

@@ -181,10 +181,6 @@ impl<T: Copied> Input for CopyInput<T> {
         let mut plane = Lent::new(&self.plane);
         let mut target = Lent::new(&self.target);
         let answer = T::by_port(self, plane.cells(), target.cells_mut()).map(|()| Vec::new());
-        Outcome {
-            answer,
-            planes: vec![T::plane(target.cells())],
-            intact: plane.untouched() && target.guarded(),
-        }
+        Outcome { answer, planes: vec![T::plane(target.cells())], intact: plane.untouched() && target.guarded() }
     }
 }

@@ -69,7 +69,7 @@ impl Input for PlaceInput {
             world,
             offset,
             radius: inputs::radius(random),
-            bounds: inputs::bounds(random, World(about.0.clamp(-999_990, 999_990), about.1.clamp(-999_990, 999_990))),
+            bounds: inputs::bounds(random, about),
         }
     }
 
@@ -146,9 +146,7 @@ impl Input for PlaceInput {
     fn observed(&self) -> Outcome {
         let Self { step, rows, cols, world, offset, radius, bounds } = *self;
         let answer = match step {
-            Step::Spans => {
-                side::get_region_spans(offset, world, radius).map(|(rows, cols)| spans_values(rows, cols))
-            }
+            Step::Spans => side::get_region_spans(offset, world, radius).map(|(rows, cols)| spans_values(rows, cols)),
             Step::Contains => side::contains(bounds, world).map(|inside| vec![Value::Whole(i64::from(inside))]),
             Step::Extension => side::calculate_extension(rows, cols, offset, world, radius).map(info_values),
             Step::BoxedExtension => {

@@ -51,7 +51,7 @@ impl Input for ProbabilityInput {
     type Step = Step;
 
     const STEPS: &'static [(&'static str, u64, Step)] =
-        &[("normalise", 300, Step::Normalise), ("product", 100, Step::Product), ("quotient", 100, Step::Quotient)];
+        &[("normalise", 500, Step::Normalise), ("product", 200, Step::Product), ("quotient", 200, Step::Quotient)];
 
     fn shows(_: Step) -> Shows {
         Shows { answer: false, planes: true, refusals: true, lends: true, reads: true }
@@ -133,10 +133,7 @@ impl Input for ProbabilityInput {
                     rows,
                     cols,
                     probabilities: cut.plane(&self.probabilities, self.rows, self.cols),
-                    offset: Offset(
-                        self.offset.0.saturating_sub(row as i32),
-                        self.offset.1.saturating_sub(col as i32),
-                    ),
+                    offset: Offset(self.offset.0.saturating_sub(row as i32), self.offset.1.saturating_sub(col as i32)),
                     ..self.clone()
                 });
             }
@@ -173,9 +170,7 @@ impl Input for ProbabilityInput {
     fn refusal(&self) -> Option<Refusal> {
         let Self { rows, cols, count, block_rows, block_cols, world, offset, radius, .. } = *self;
         match self.step {
-            Step::Normalise => {
-                refusals::normalise(&self.probabilities, rows, cols, count, world, offset, &self.out)
-            }
+            Step::Normalise => refusals::normalise(&self.probabilities, rows, cols, count, world, offset, &self.out),
             _ => refusals::product(
                 &self.probabilities,
                 rows,

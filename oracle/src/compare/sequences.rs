@@ -1,8 +1,8 @@
 //! Runs of lay and lift from a fresh board, refused calls among them. After every call the board is held against the
 //! text's own steps, and against a board of the port's that is laid afresh with the standing pieces only, in another order.
 
-use super::{Input, Shows};
 use super::board::board_planes;
+use super::{Input, Shows};
 use crate::calls::*;
 use crate::inputs::{self, TileList};
 use crate::outcome::{Lent, Outcome, Plane, Value};
@@ -146,7 +146,7 @@ fn said(answer: Answer<()>) -> Value {
 impl Input for SequenceInput {
     type Step = ();
 
-    const STEPS: &'static [(&'static str, u64, ())] = &[("sequences", 20, ())];
+    const STEPS: &'static [(&'static str, u64, ())] = &[("sequences", 100, ())];
 
     fn uses_tiles(_: ()) -> bool {
         true

@@ -133,10 +133,11 @@ impl Input for SetInput {
             let other = TileBitset { size, ..self.other };
             all.push(Self { set: TileBitset { size, ..self.set }, other, ..self.clone() });
         }
-        all.extend(inputs::fewer(self.colour as usize).into_iter().map(|colour| Self {
-            colour: colour as u32,
-            ..self.clone()
-        }));
+        all.extend(
+            inputs::fewer(self.colour as usize)
+                .into_iter()
+                .map(|colour| Self { colour: colour as u32, ..self.clone() }),
+        );
         all
     }
 

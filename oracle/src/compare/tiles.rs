@@ -30,7 +30,7 @@ fn sample_side(random: &mut Random) -> usize {
 impl Input for ExtractInput {
     type Step = ();
 
-    const STEPS: &'static [(&'static str, u64, ())] = &[("extract", 100, ())];
+    const STEPS: &'static [(&'static str, u64, ())] = &[("extract", 300, ())];
 
     fn shows(_: ()) -> Shows {
         Shows { answer: true, planes: true, refusals: true, lends: true, reads: true }
@@ -190,9 +190,8 @@ impl Input for TileInput {
         let count = inputs::count(random);
         let most = if step == Step::Membership { count as usize } else { 255 };
         let few = random.percent(30);
-        let tile = std::array::from_fn(|_| {
-            if few { random.pick(&[0, 1, most as u8]) } else { random.below(most + 1) as u8 }
-        });
+        let tile =
+            std::array::from_fn(|_| if few { random.pick(&[0, 1, most as u8]) } else { random.below(most + 1) as u8 });
         Self { step, tile, count }
     }
 
@@ -213,10 +212,9 @@ impl Input for TileInput {
     fn smaller(&self) -> Vec<Self> {
         let plain = |tile: Vec<u8>| Self { tile: tile.try_into().unwrap(), ..self.clone() };
         let mut all: Vec<Self> = inputs::plainer(&self.tile, 0).into_iter().map(plain).collect();
-        all.extend(inputs::fewer(self.count as usize).into_iter().map(|count| Self {
-            count: count as u32,
-            ..self.clone()
-        }));
+        all.extend(
+            inputs::fewer(self.count as usize).into_iter().map(|count| Self { count: count as u32, ..self.clone() }),
+        );
         all
     }
 

@@ -12,7 +12,9 @@ use crate::algorithm::propagation::{
     ForcedPipeline, ForcedPosition, StepData, check_for_contradiction, detect_forced_positions,
     update_feasibility_counts, update_grid_state, update_probabilities_and_entropy,
 };
-use crate::algorithm::selection::{compute_viable_tiles_at_position, get_tile_probabilities_at_position};
+use crate::algorithm::selection::{
+    compute_viable_tiles_at_position, get_tile_probabilities_at_position, reach_compatible_values,
+};
 use crate::spatial::GridState;
 use crate::spatial::extension::{self, Extendable, ExtensionInfo};
 use crate::spatial::grid::{self, BoundingBox};
@@ -116,6 +118,11 @@ pub fn rotate(tile: &[u8; 9]) -> [u8; 9] {
 
 pub fn reflect(tile: &[u8; 9]) -> [u8; 9] {
     bytes_of(&TileExtractor::reach_reflect(&tile_of(tile)))
+}
+
+/// The first of equal tiles, in order.
+pub fn distinct(tiles: &[u8]) -> Vec<u8> {
+    TileExtractor::reach_deduplicate_tiles(tiles_of(tiles)).iter().flat_map(bytes_of).collect()
 }
 
 /// Bit t-1 stands for colour t, here and in the sets below.
@@ -301,6 +308,15 @@ impl Job {
         compute_viable_tiles_at_position(&board.grid, world, offset, &self.step.source_tiles, &self.step, cache)
     }
 
+    /// The colours that the tiles fitting one window have at one of its places; 0 is bare. The listing is the
+    /// intersection of these, and the cache stands before this step.
+    pub fn window(&mut self, pattern: &[u8; 9], place: [usize; 2]) -> Vec<usize> {
+        let pattern = signed_tile(&tile_of(pattern));
+        let key = convert_tile_to_membership_booleans(&pattern, self.step.unique_cell_count);
+        self.want_keys([bits_of_flags(&key)]);
+        reach_compatible_values(&pattern, &self.step, place[0], place[1]).to_vec()
+    }
+
     /// Places and colours. The board's box, if it has one, is the text's generation bounds.
     pub fn forced(&mut self, board: &Board, world: Place, offset: Place, cache: Cache) -> Vec<(Place, usize)> {
         self.want_round(board, index(world, offset), 1);
@@ -430,6 +446,11 @@ impl Board {
         self.grid.adjacency_weights = array(weights, [self.grid.rows(), self.grid.cols()]);
     }
 
+    /// A piece alone, without weights and counts: for timing, to set up a board quickly.
+    pub fn put(&mut self, world: Place, colour: u32) {
+        *self.grid.locked_tiles.get_mut(index(world, [0, 0])).unwrap() = colour + 1;
+    }
+
     pub fn set_box(&mut self, bounds: Option<(Place, Place)>) {
         self.grid.generation_bounds = bounds.map(|(min, max)| BoundingBox { min, max });
     }
@@ -539,9 +560,8 @@ pub fn lay_score(scores: &[f64], counts: &[u32], sides: Sides, tiles: usize, wor
     let mut rules = BTreeMap::new();
     for row in rows.start..rows.end.min(sides[0].saturating_sub(2)) {
         for col in cols.start..cols.end.min(sides[1].saturating_sub(2)) {
-            let pattern: Tile = std::array::from_fn(|i| {
-                std::array::from_fn(|j| pieces[(row + i) * sides[1] + col + j] as usize - 1)
-            });
+            let pattern: Tile =
+                std::array::from_fn(|i| std::array::from_fn(|j| pieces[(row + i) * sides[1] + col + j] as usize - 1));
             patterns.push(pattern);
             let key = convert_tile_to_membership_booleans(&signed_tile(&pattern), colours as usize);
             rules.insert(key, vec![patterns.len(); counts[row * sides[1] + col] as usize]);

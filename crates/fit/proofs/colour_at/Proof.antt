@@ -1,8 +1,7 @@
 -- `fit::colour_at` meets its contract. Assumes nothing.
-use Prim.Native.Nat.{ℕ, _+_, _-_, _*_, _/_, _%_, _<_, _≤_}
-use mathlib.Core.Path.{_≡_, refl, sym, _∙_, ap}
+use Prim.Native.Nat.{_+_, _*_, _<_, _≤_}
+use mathlib.Core.Path.{sym, ap}
 use native.Mathlib.Omega.{arith}
-use lib.ListN.{length, getD}
 use Rattle.base.proofs.Numbers.{cell-lt, mul-le}
 use Rattle.rules.specs.Grid.{colourOn}
 use Rattle.fit.proofs.Windows.{on-grid, off-rows, off-cols, bare-past}

@@ -1,10 +1,10 @@
 -- `fit::fit_count` meets its contract. The loop's invariant: the count is that of the tiles passed. Assumes nothing.
-use Prim.Native.Nat.{ℕ, _+_, _-_, _*_, _/_, _%_, _<_, _≤_}
-use mathlib.Core.Path.{_≡_, refl, sym, _∙_, ap}
+use Prim.Native.Nat.{ℕ, _+_, _-_, _/_, _≤_}
+use mathlib.Core.Path.{_≡_}
 use native.Mathlib.Omega.{arith}
 use lib.ListN.{length, getD}
 use mathlib.Core.Bool.{Bool}
-use Rattle.base.specs.Counting.{pick, tally}
+use Rattle.base.specs.Counting.{tally}
 use Rattle.base.proofs.Counted.{tally-le}
 use Rattle.rules.specs.Fit.{fitsTile, fitCount}
 use Rattle.fit.proofs.Windows.{tally-turn, tally-done}

@@ -1,7 +1,6 @@
 -- `fit::fit_count_at` meets its contract: the window is read, and its tiles counted. Assumes nothing.
-use Prim.Native.Nat.{ℕ, _+_, _-_, _*_, _/_, _%_, _<_, _≤_}
-use mathlib.Core.Path.{_≡_, refl, sym, _∙_, ap}
-use lib.ListN.{length, getD}
+use Prim.Native.Nat.{ℕ, _+_, _*_}
+use mathlib.Core.Path.{_∙_}
 use Rattle.rules.specs.Grid.{flat}
 use Rattle.rules.specs.Fit.{pattern}
 use Rattle.fit.proofs.Windows.{count-ext, read-is}

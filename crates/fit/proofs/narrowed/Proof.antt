@@ -1,7 +1,5 @@
 -- `fit::narrowed` meets its contract: a window that starts above or left is skipped, any other is read and its colours found. Assumes nothing.
-use Prim.Native.Nat.{ℕ, _+_, _-_, _*_, _/_, _%_, _<_, _≤_}
-use mathlib.Core.Path.{_≡_, refl, sym, _∙_, ap}
-use lib.ListN.{length, getD}
+use mathlib.Core.Path.{_∙_}
 use Rattle.fit.proofs.Lists.{above-left, aside-left, kept-left}
 use borrow.Author.Needs.{needs}
 use Rattle.fit.proofs.narrowed.Statement.{statement}

@@ -1,8 +1,7 @@
 -- `fit::offered` meets its contract. Assumes nothing.
-use Prim.Native.Nat.{ℕ, _+_, _-_, _*_, _/_, _%_, _<_, _≤_}
-use mathlib.Core.Path.{_≡_, refl, sym, _∙_, ap}
+use Prim.Native.Nat.{_+_, _*_}
+use mathlib.Core.Path.{sym}
 use native.Mathlib.Omega.{arith}
-use lib.ListN.{length, getD}
 use Rattle.base.proofs.Bools.{fails, passes, pick-yes, pick-no}
 use borrow.Author.Needs.{needs}
 use Rattle.fit.proofs.offered.Statement.{statement}

@@ -1,6 +1,5 @@
 -- `fit::pieces_refused` meets its contract: a chain of six checks. Assumes nothing.
-use Prim.Native.Nat.{ℕ}
-use mathlib.Core.Path.{_≡_, _∙_, ap}
+use mathlib.Core.Path.{_∙_, ap}
 use Rattle.base.proofs.Bools.{passes}
 use Rattle.base.proofs.Chain.{refuse, pass, no-check}
 use Rattle.rules.specs.Tests.{hasLength}

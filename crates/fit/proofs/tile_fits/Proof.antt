@@ -1,8 +1,7 @@
 -- `fit::tile_fits` meets its contract. The loop's invariant: the places passed agree. Assumes nothing.
-use Prim.Native.Nat.{ℕ, _+_, _-_, _*_, _/_, _%_, _<_, _≤_}
-use mathlib.Core.Path.{_≡_, refl, sym, _∙_, ap}
-use native.Mathlib.Omega.{arith}
-use lib.ListN.{length, getD}
+use Prim.Native.Nat.{_-_, _≤_}
+use mathlib.Core.Path.{_≡_, sym}
+use lib.ListN.{getD}
 use mathlib.Core.Bool.{true}
 use Rattle.base.specs.Counting.{every}
 use Rattle.base.proofs.Bools.{fails, passes}

@@ -1,8 +1,7 @@
 -- `fit::viable_colours` meets its contract. The loop's invariant: left are the colours that the windows passed allow. Assumes nothing.
-use Prim.Native.Nat.{ℕ, _+_, _-_, _*_, _/_, _%_, _^_, _<_, _≤_}
-use mathlib.Core.Path.{_≡_, refl, sym, _∙_, ap}
+use Prim.Native.Nat.{ℕ, _+_, _-_, _*_, _≤_}
+use mathlib.Core.Path.{_≡_, _∙_, ap}
 use native.Mathlib.Omega.{arith}
-use lib.ListN.{length, getD}
 use Rattle.rules.specs.Grid.{flat}
 use Rattle.rules.specs.Sets.{has, bitsOf}
 use mathlib.Core.Bool.{_&&_}

@@ -1,8 +1,6 @@
 -- `fit::viable_tiles_at` meets its contract: the set of what `viable_colours` found. Assumes nothing.
-use Prim.Native.Nat.{ℕ, _+_, _-_, _*_, _/_, _%_, _^_, _<_, _≤_}
-use mathlib.Core.Path.{_≡_, refl, sym, _∙_, ap}
-use Rattle.rules.specs.declared.TileBitset.{TileBitset}
-use Rattle.rules.specs.declared.Listing.{Listing}
+use Prim.Native.Nat.{ℕ}
+use mathlib.Core.Path.{ap}
 use Rattle.rules.specs.declared.Listing.the-variants.{Colours}
 use borrow.Author.Needs.{needs}
 use Rattle.fit.proofs.viable_tiles_at.Statement.{statement}

@@ -1,10 +1,7 @@
 -- `fit::window_at` meets its contract. The loop's invariant: the places passed hold their colours. Assumes nothing.
-use Prim.Native.Nat.{ℕ, _+_, _-_, _*_, _/_, _%_, _<_, _≤_}
-use mathlib.Core.Path.{_≡_, refl, sym, _∙_, ap}
-use native.Mathlib.Omega.{arith}
-use lib.ListN.{length, getD}
-use Rattle.base.specs.Tables.{tab}
-use Rattle.base.proofs.Swept.{swept, swept-none, swept-turn, swept-all, length-swept}
+use Prim.Native.Nat.{_+_, _-_, _*_, _≤_}
+use mathlib.Core.Path.{_≡_, _∙_}
+use Rattle.base.proofs.Swept.{swept, swept-none, swept-turn, swept-all}
 use Rattle.rules.specs.Grid.{flat}
 use Rattle.rules.specs.Fit.{pattern}
 use Rattle.fit.proofs.Windows.{pattern-is}

@@ -1,6 +1,4 @@
 -- `fit::without_colour` meets its contract: the set less what it has in common with the one colour. Assumes nothing.
-use Prim.Native.Nat.{ℕ, _+_, _-_, _*_, _/_, _%_, _<_, _≤_}
-use mathlib.Core.Path.{_≡_, refl, sym, _∙_, ap}
 use native.Mathlib.Omega.{arith}
 use Rattle.fit.proofs.Lists.{common-le, without-is}
 use borrow.Author.Needs.{needs}

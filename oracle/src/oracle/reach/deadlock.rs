@@ -12,14 +12,7 @@ pub fn reach_revert_probabilities(
     coords: [i32; 2],
     step_data: &StepData,
 ) {
-    revert_probabilities(
-        grid_state,
-        probability_influence_matrices,
-        tile_reference,
-        system_offset,
-        coords,
-        step_data,
-    );
+    revert_probabilities(grid_state, probability_influence_matrices, tile_reference, system_offset, coords, step_data);
 }
 
 pub fn reach_recount_feasibility(

@@ -9,6 +9,10 @@ impl TileExtractor {
         Self::reflect(tile)
     }
 
+    pub fn reach_deduplicate_tiles(tiles: Vec<Tile>) -> Vec<Tile> {
+        Self::deduplicate_tiles(tiles)
+    }
+
     /// The index of a list that no extraction gave.
     pub fn reach_rules_of(tiles: Vec<Tile>, unique_cell_count: usize) -> BTreeMap<Vec<u8>, Vec<usize>> {
         let mut extractor = Self { source_tiles: tiles, source_tile_boolean_reference_rules: BTreeMap::new() };

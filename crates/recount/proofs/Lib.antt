@@ -1,0 +1,2 @@
+pub mod Recounts
+pub mod Leaning

@@ -1,0 +1,36 @@
+-- The count of one region after a change near it, as the loops take it; and the checks of the recount but for its place, in the order of
+-- its call. These definitions serve the proofs alone: the call is stated by those of document 01.
+use Prim.Native.Nat.{ℕ, _+_, _*_, max}
+use mathlib.Core.Bool.{_&&_}
+use mathlib.Core.List.{List}
+use lib.Dec.{leb, ltb}
+use Rattle.base.specs.Counting.{pick}
+use Rattle.base.specs.Refusal.{Checks, accepted, _unless_or_}
+use Rattle.rules.specs.Bounds.{SHAPE, LENGTH, COUNT, CELL}
+use Rattle.rules.specs.Grid.{flat, gap}
+use Rattle.rules.specs.Fit.{pattern, fitCount}
+use Rattle.rules.specs.declared.Cell.{Cell}
+use Rattle.rules.specs.Tests.{boardSides, hasLength, wholeTiles, tilesIn, colourCount, noneAbove, piecesStored}
+
+-- within distance 2 and whole: counted anew; else as it was
+unfoldable pub countAfter : List ℕ → List ℕ → ℕ → ℕ → Cell → ℕ → ℕ → ℕ → ℕ
+countAfter tiles pieces rows cols cell row col old =
+    pick (leb (max (gap (cell .0) row) (gap (cell .1) col)) 2 && (ltb (row + 2) rows && ltb (col + 2) cols))
+    (fitCount tiles (pattern (flat rows cols) pieces (row * cols + col)))
+    old
+
+abbrev pub contentsChecks : List ℕ → List ℕ → List ℕ → ℕ → ℕ → Checks
+contentsChecks counts pieces tiles count n =
+    COUNT unless colourCount count
+    or CELL unless noneAbove tiles count
+    or CELL unless piecesStored pieces count
+    or CELL unless noneAbove counts n
+    or accepted
+
+abbrev pub planesChecks : List ℕ → List ℕ → ℕ → ℕ → List ℕ → ℕ → Checks
+planesChecks counts pieces rows cols tiles count =
+    SHAPE unless boardSides rows cols
+    or LENGTH unless hasLength counts (rows * cols)
+    or LENGTH unless hasLength pieces (rows * cols)
+    or LENGTH unless wholeTiles tiles
+    or contentsChecks counts pieces tiles count (tilesIn tiles)

@@ -1,0 +1,5 @@
+pub mod Reading
+pub mod Forming
+pub mod Meaning
+pub mod Coincide
+pub mod Cases

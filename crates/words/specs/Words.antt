@@ -1,0 +1,126 @@
+-- Decimal numbers parted by white space: what a text of bytes makes. Which bytes are white space and how large a number may be is for
+-- the caller to say.
+use Prim.Native.Nat.{ℕ, zero, suc, _+_, _-_, _*_, _<_, _≤_, min}
+use mathlib.Core.Bool.{Bool, true, false, _&&_}
+use mathlib.Core.List.{List, [], _∷_, _++_}
+use lib.Dec.{leb, eqb}
+use lib.ListN.{length, getD, set, drop}
+use Rattle.base.specs.Counting.{pick, some, within}
+use Rattle.base.specs.Tables.{fold}
+use Rattle.words.specs.declared.Parsed.{Parsed}
+use Rattle.words.specs.declared.Parsed.the-variants as Parsed·
+use Rattle.words.specs.declared.Found.{Found}
+use Rattle.words.specs.declared.Found.the-variants as Found·
+use Rattle.words.specs.declared.State.{State}
+use Rattle.words.specs.declared.State.the-variants.{Spoilt, Between, Inside}
+
+-- what has been read: the numbers that are ended and, inside one, what its digits make so far
+pub data Reading : Type 0 where
+  spoilt : Reading
+  between : List ℕ → Reading
+  inside : List ℕ → ℕ → Reading
+
+abbrev pub isByte : List ℕ → ℕ → ℕ → Bool
+isByte blanks b k = eqb (getD blanks k 0) b
+
+unfoldable pub isBlank : List ℕ → ℕ → Bool
+isBlank blanks b = some (length blanks) (isByte blanks b)
+
+-- a digit more; a number past 4,294,967,295 stays there
+abbrev pub saturated : ℕ
+saturated = 4294967295
+
+unfoldable pub withDigit : ℕ → ℕ → ℕ
+withDigit n b = min saturated (n * 10 + (b - 48))
+
+-- the byte is a digit, and the number with it is not too large
+unfoldable pub grows : ℕ → ℕ → ℕ → Bool
+grows limit n b = within 48 57 b && leb (withDigit n b) limit
+
+abbrev pub grown : ℕ → List ℕ → ℕ → ℕ → Reading
+grown limit ns n b = pick (grows limit n b) (inside ns (withDigit n b)) spoilt
+
+-- one byte more; leading zeros are digits like others
+unfoldable pub after : List ℕ → ℕ → Reading → ℕ → Reading
+after blanks limit spoilt b = spoilt
+after blanks limit (between ns) b = pick (isBlank blanks b) (between ns) (grown limit ns 0 b)
+after blanks limit (inside ns n) b = pick (isBlank blanks b) (between (ns ++ n ∷ [])) (grown limit ns n b)
+
+-- a text is numbers, or it is not
+pub data Text : Type 0 where
+  bad : Text
+  numbers : List ℕ → Text
+
+-- the end of the text ends a number
+abbrev pub ended : Reading → Text
+ended spoilt = bad
+ended (between ns) = numbers ns
+ended (inside ns n) = numbers (ns ++ n ∷ [])
+
+unfoldable pub reading : List ℕ → ℕ → List ℕ → Reading
+reading blanks limit text = fold (after blanks limit) (between []) text
+
+unfoldable pub numbersIn : List ℕ → ℕ → List ℕ → Text
+numbersIn blanks limit text = ended (reading blanks limit text)
+
+-- ---- the call: the numbers stand at the start of a lent store, if it has room for all; else it is left as it was
+
+abbrev pub parsedInto : ℕ → Text → Parsed
+parsedInto room bad = Parsed·.Bad
+parsedInto room (numbers ns) = pick (leb (length ns) room) (Parsed·.Numbers (length ns)) Parsed·.Full
+
+unfoldable pub over : List ℕ → List ℕ → List ℕ
+over ns store = ns ++ drop (length ns) store
+
+abbrev pub storeWith : Text → List ℕ → List ℕ
+storeWith bad store = store
+storeWith (numbers ns) store = pick (leb (length ns) (length store)) (over ns store) store
+
+-- ---- how the code holds a reading: the number of the numbers that are ended in place of the numbers
+
+abbrev pub stateOf : Reading → State
+stateOf spoilt = Spoilt
+stateOf (between ns) = Between (length ns)
+stateOf (inside ns n) = Inside (length ns) n
+
+abbrev pub grownState : ℕ → ℕ → ℕ → ℕ → State
+grownState limit k n b = pick (grows limit n b) (Inside k (withDigit n b)) Spoilt
+
+unfoldable pub nextState : List ℕ → ℕ → State → ℕ → State
+nextState blanks limit Spoilt b = Spoilt
+nextState blanks limit (Between k) b = pick (isBlank blanks b) (Between k) (grownState limit k 0 b)
+nextState blanks limit (Inside k n) b = pick (isBlank blanks b) (Between (k + 1)) (grownState limit k n b)
+
+-- as many bytes at the least have been read: a number has a digit, and a blank after it
+abbrev pub bytesRead : State → ℕ
+bytesRead Spoilt = 0
+bytesRead (Between k) = k + k
+bytesRead (Inside k n) = k + k + 1
+
+abbrev pub foundBy : State → Found
+foundBy Spoilt = Found·.Other
+foundBy (Between k) = Found·.Numbers k
+foundBy (Inside k n) = Found·.Numbers (k + 1)
+
+-- a number is stored with each of its digits
+abbrev pub held : State → List ℕ → List ℕ
+held Spoilt store = store
+held (Between k) store = store
+held (Inside k n) store = set store k n
+
+abbrev pub entries : State → ℕ
+entries Spoilt = 0
+entries (Between k) = k
+entries (Inside k n) = k + 1
+
+-- the numbers that are begun
+abbrev pub begun : Reading → List ℕ
+begun spoilt = []
+begun (between ns) = ns
+begun (inside ns n) = ns ++ n ∷ []
+
+-- a text of numbers, for all of which there is room
+abbrev pub Fits : ℕ → Reading → Type 0
+Fits room spoilt = ⊥
+Fits room (between ns) = length ns ≤ room
+Fits room (inside ns n) = length ns < room
