@@ -159,14 +159,15 @@ pub fn spoil_offset(random: &mut Random, offset: &mut Offset) {
     if random.percent(50) { offset.0 = bad } else { offset.1 = bad }
 }
 
-/// Off the board, but inside the bounds where the offset allows it.
+/// Off the board, but inside the bounds where the offset allows it: just past an edge, or anywhere.
 pub fn spoil_place(random: &mut Random, rows: usize, cols: usize, world: &mut World, offset: Offset) {
     let past = |side: usize| i32::try_from(side).unwrap_or(64);
-    let (row, col) = match random.below(4) {
+    let (row, col) = match random.below(5) {
         0 => (-1, 0),
         1 => (0, -1),
         2 => (past(rows), 0),
-        _ => (0, past(cols)),
+        3 => (0, past(cols)),
+        _ => (random.within(-2_000_000, 2_000_000), random.within(-2_000_000, 2_000_000)),
     };
     *world = World(row.saturating_sub(offset.0), col.saturating_sub(offset.1));
 }
@@ -261,7 +262,7 @@ impl TileList {
     pub fn smaller(&self) -> Vec<Self> {
         let number = self.number();
         let mut lists = Vec::new();
-        if self.bytes.len() % 9 == 0 && number > 1 {
+        if self.bytes.len().is_multiple_of(9) && number > 1 {
             lists.push(self.with_bytes(|bytes| bytes.truncate(number / 2 * 9)));
             lists.push(self.with_bytes(|bytes| drop(bytes.drain(..number / 2 * 9))));
             // without one of sixteen parts, which are single tiles in the end
@@ -514,7 +515,7 @@ impl Cut {
     /// A plane of one or more layers; one of another length stays as it is.
     pub fn plane<T: Copy>(self, plane: &[T], rows: usize, cols: usize) -> Vec<T> {
         let Some((row, col, new_rows, new_cols)) = self.sides(rows, cols) else { return plane.to_vec() };
-        let Some(cells) = rows.checked_mul(cols).filter(|&cells| cells > 0 && plane.len() % cells == 0) else {
+        let Some(cells) = rows.checked_mul(cols).filter(|&cells| cells > 0 && plane.len().is_multiple_of(cells)) else {
             return plane.to_vec();
         };
         let mut left = Vec::new();

@@ -8,7 +8,9 @@ mod random;
 mod refusals;
 mod speed;
 
+// its calls have a pointer and a length for each slice: one a line would make it long
 #[cfg(feature = "port")]
+#[rustfmt::skip]
 mod port;
 #[cfg(feature = "port")]
 use port as side;

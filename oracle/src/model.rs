@@ -416,7 +416,6 @@ pub fn listing(
     })
 }
 
-#[allow(clippy::too_many_arguments)]
 pub fn forced(
     pieces: &[u32],
     rows: usize,
@@ -560,7 +559,6 @@ pub fn lower_weights(weights: &mut [u32], rows: usize, cols: usize, world: World
     })
 }
 
-#[allow(clippy::too_many_arguments)]
 pub fn recount(
     counts: &mut [u32],
     pieces: &[u32],
@@ -591,7 +589,6 @@ pub fn fresh(
     })
 }
 
-#[allow(clippy::too_many_arguments)]
 pub fn lay(
     pieces: &mut [u32],
     weights: &mut [u32],
@@ -613,7 +610,6 @@ pub fn lay(
     })
 }
 
-#[allow(clippy::too_many_arguments)]
 pub fn lift(
     pieces: &mut [u32],
     weights: &mut [u32],
@@ -681,7 +677,6 @@ fn region(rows: usize, cols: usize, world: World, offset: Offset, radius: usize)
     cells
 }
 
-#[allow(clippy::too_many_arguments)]
 pub fn product(
     probabilities: &mut [f64],
     rows: usize,
@@ -712,7 +707,6 @@ pub fn product(
     })
 }
 
-#[allow(clippy::too_many_arguments)]
 pub fn quotient(
     probabilities: &mut [f64],
     rows: usize,

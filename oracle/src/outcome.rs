@@ -157,6 +157,22 @@ impl Guarded for u32 {
     }
 }
 
+impl Guarded for i32 {
+    const GUARD: i32 = -0x5afa_5afa;
+    const OTHER: i32 = -0x5afa_5afb;
+    fn same(self, other: i32) -> bool {
+        self == other
+    }
+}
+
+impl Guarded for u64 {
+    const GUARD: u64 = 0xfa5a_fa5a_fa5a_fa5a;
+    const OTHER: u64 = 0xfa5a_fa5a_fa5a_fa5b;
+    fn same(self, other: u64) -> bool {
+        self == other
+    }
+}
+
 impl Guarded for f64 {
     const GUARD: f64 = f64::NAN;
     const OTHER: f64 = f64::MIN;

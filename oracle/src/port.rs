@@ -1,12 +1,13 @@
 //! Everything that touches the port: its exported functions as declared, and one safe function a call.
 //!
 //! The boundary is numbers and slices. A slice goes over as a pointer and its number of elements. Each exported function
-//! answers 0 or a refusal's number; what it finds goes into lent slices of exactly the length named here. Nothing checks
-//! these declarations against the port's source but the runs themselves.
+//! answers 0 or a refusal's number; what it finds goes into lent slices of exactly the length named here, which a refused
+//! call leaves as they were. Nothing checks these declarations against the port's source but the runs themselves.
 
 use crate::calls::*;
+use crate::outcome::Guarded;
+use std::hint::black_box;
 
-#[rustfmt::skip]
 unsafe extern "C" {
     // out: row start, row end, column start, column end
     fn port_get_region_spans(
@@ -88,7 +89,7 @@ unsafe extern "C" {
         added_coordinates: *const i32, added_coordinates_len: usize, added_colours: *const u32,
         added_colours_len: usize, added_len: usize,
     ) -> u32;
-    // taken: row, column; colour: one entry; found: 1, or 0 for nothing
+    // taken: row, column; colour: one entry; found: 1, or 0 for nothing, and then the others are not read
     fn port_queue_take(
         coordinates: *mut i32, coordinates_len: usize, colours: *mut u32, colours_len: usize,
         len: *mut u64, len_len: usize, taken: *mut i32, taken_len: usize, colour: *mut u32, colour_len: usize,
@@ -102,7 +103,7 @@ unsafe extern "C" {
         coordinates: *const i32, coordinates_len: usize, colours: *const u32, colours_len: usize, len: usize,
         out: *mut u64, out_len: usize,
     ) -> u32;
-    // out: 1 or 0 for nowhere, row, column
+    // out: 1, row, column; or 0 for nowhere, and then the others are not read
     fn port_scan(
         pieces: *const u32, pieces_len: usize, weights: *const u32, weights_len: usize, rows: usize, cols: usize,
         tiles: *const u8, tiles_len: usize, count: u32, out: *mut u64, out_len: usize,
@@ -166,29 +167,87 @@ fn answer<T>(refused: u32, value: T) -> Answer<T> {
     }
 }
 
+/// A small slice lent for an answer, with guard words round it.
+#[repr(C)]
+struct Out<T, const N: usize> {
+    before: [T; GUARDS],
+    cells: [T; N],
+    after: [T; GUARDS],
+}
+
+const GUARDS: usize = 4;
+
+impl<T: Guarded, const N: usize> Out<T, N> {
+    fn new() -> Self {
+        Self::with([T::GUARD; N])
+    }
+
+    fn with(cells: [T; N]) -> Self {
+        Self { before: [T::GUARD; GUARDS], cells, after: [T::GUARD; GUARDS] }
+    }
+
+    /// Into the whole, so that writing past the cells is seen and no more.
+    fn ptr(&mut self) -> *mut T {
+        unsafe { (&raw mut *self).cast::<T>().add(GUARDS) }
+    }
+
+    fn len(&self) -> usize {
+        N
+    }
+
+    /// What came back.
+    fn cells(self) -> [T; N] {
+        let out = black_box(self);
+        let kept = |cells: &[T]| cells.iter().all(|cell| cell.same(T::GUARD));
+        assert!(kept(&out.before) && kept(&out.after), "the port wrote past a slice lent for an answer");
+        out.cells
+    }
+
+    /// What came back from a call that only writes if it accepts.
+    fn answered(self, refused: u32) -> [T; N] {
+        let cells = self.cells();
+        let kept = cells.iter().all(|cell| cell.same(T::GUARD));
+        assert!(refused == 0 || kept, "a refused call wrote an answer");
+        cells
+    }
+}
+
+fn flag(number: impl Into<u64>) -> bool {
+    let number = number.into();
+    assert!(number < 2, "neither 0 nor 1: {number}");
+    number == 1
+}
+
+fn whole(number: u64) -> usize {
+    usize::try_from(number).expect("a number of this machine")
+}
+
 // ---- places
 
 pub fn get_region_spans(offset: Offset, world: World, radius: usize) -> Answer<(Span, Span)> {
-    let mut out = [0u64; 4];
-    let refused =
-        unsafe { port_get_region_spans(offset.0, offset.1, world.0, world.1, radius, out.as_mut_ptr(), out.len()) };
-    let [a, b, c, d] = out.map(|end| end as usize);
-    answer(refused, (Span(a, b), Span(c, d)))
+    let mut out = Out::<u64, 4>::new();
+    let refused = unsafe { port_get_region_spans(offset.0, offset.1, world.0, world.1, radius, out.ptr(), out.len()) };
+    let out = out.answered(refused);
+    answer(refused, out).map(|out| {
+        let [a, b, c, d] = out.map(whole);
+        (Span(a, b), Span(c, d))
+    })
 }
 
 pub fn contains(bounds: BoundingBox, world: World) -> Answer<bool> {
     let BoundingBox { min, max } = bounds;
-    let mut out = [0u32; 1];
-    let refused = unsafe { port_contains(min.0, min.1, max.0, max.1, world.0, world.1, out.as_mut_ptr(), out.len()) };
-    answer(refused, out[0] == 1)
+    let mut out = Out::<u32, 1>::new();
+    let refused = unsafe { port_contains(min.0, min.1, max.0, max.1, world.0, world.1, out.ptr(), out.len()) };
+    let [inside] = out.answered(refused);
+    answer(refused, inside).map(flag)
 }
 
-fn extension(pads: [u64; 4], offset: [i32; 2], needed: [u32; 1]) -> ExtensionInfo {
-    let [left, right, top, bottom] = pads.map(|pad| pad as usize);
+fn extension((pads, offset, needed): ([u64; 4], [i32; 2], [u32; 1])) -> ExtensionInfo {
+    let [left, right, top, bottom] = pads.map(whole);
     ExtensionInfo {
         pads: Pads { left, right, top, bottom },
         offset: Offset(offset[0], offset[1]),
-        needed: needed[0] == 1,
+        needed: flag(needed[0]),
     }
 }
 
@@ -199,25 +258,15 @@ pub fn calculate_extension(
     world: World,
     radius: usize,
 ) -> Answer<ExtensionInfo> {
-    let (mut pads, mut new_offset, mut needed) = ([0; 4], [0; 2], [0; 1]);
+    let (mut pads, mut new_offset, mut needed) = (Out::new(), Out::new(), Out::new());
     let refused = unsafe {
         port_calculate_extension(
-            rows,
-            cols,
-            offset.0,
-            offset.1,
-            world.0,
-            world.1,
-            radius,
-            pads.as_mut_ptr(),
-            4,
-            new_offset.as_mut_ptr(),
-            2,
-            needed.as_mut_ptr(),
-            1,
+            rows, cols, offset.0, offset.1, world.0, world.1, radius, pads.ptr(), pads.len(), new_offset.ptr(),
+            new_offset.len(), needed.ptr(), needed.len(),
         )
     };
-    answer(refused, extension(pads, new_offset, needed))
+    let found = (pads.answered(refused), new_offset.answered(refused), needed.answered(refused));
+    answer(refused, found).map(extension)
 }
 
 pub fn constrained_extension(
@@ -229,45 +278,22 @@ pub fn constrained_extension(
     bounds: BoundingBox,
 ) -> Answer<ExtensionInfo> {
     let BoundingBox { min, max } = bounds;
-    let (mut pads, mut new_offset, mut needed) = ([0; 4], [0; 2], [0; 1]);
+    let (mut pads, mut new_offset, mut needed) = (Out::new(), Out::new(), Out::new());
     let refused = unsafe {
         port_constrained_extension(
-            rows,
-            cols,
-            offset.0,
-            offset.1,
-            world.0,
-            world.1,
-            radius,
-            min.0,
-            min.1,
-            max.0,
-            max.1,
-            pads.as_mut_ptr(),
-            4,
-            new_offset.as_mut_ptr(),
-            2,
-            needed.as_mut_ptr(),
-            1,
+            rows, cols, offset.0, offset.1, world.0, world.1, radius, min.0, min.1, max.0, max.1, pads.ptr(),
+            pads.len(), new_offset.ptr(), new_offset.len(), needed.ptr(), needed.len(),
         )
     };
-    answer(refused, extension(pads, new_offset, needed))
+    let found = (pads.answered(refused), new_offset.answered(refused), needed.answered(refused));
+    answer(refused, found).map(extension)
 }
 
 pub fn extend_array_2d_u32(plane: &[u32], rows: usize, cols: usize, pads: Pads, target: &mut [u32]) -> Answer<()> {
     let Pads { left, right, top, bottom } = pads;
     let refused = unsafe {
         port_extend_u32(
-            plane.as_ptr(),
-            plane.len(),
-            rows,
-            cols,
-            left,
-            right,
-            top,
-            bottom,
-            target.as_mut_ptr(),
-            target.len(),
+            plane.as_ptr(), plane.len(), rows, cols, left, right, top, bottom, target.as_mut_ptr(), target.len(),
         )
     };
     answer(refused, ())
@@ -277,16 +303,7 @@ pub fn extend_array_2d_f64(plane: &[f64], rows: usize, cols: usize, pads: Pads, 
     let Pads { left, right, top, bottom } = pads;
     let refused = unsafe {
         port_extend_f64(
-            plane.as_ptr(),
-            plane.len(),
-            rows,
-            cols,
-            left,
-            right,
-            top,
-            bottom,
-            target.as_mut_ptr(),
-            target.len(),
+            plane.as_ptr(), plane.len(), rows, cols, left, right, top, bottom, target.as_mut_ptr(), target.len(),
         )
     };
     answer(refused, ())
@@ -299,51 +316,61 @@ fn set(out: [u32; 2]) -> TileBitset {
 }
 
 pub fn set_new(size: u32) -> Answer<TileBitset> {
-    let mut out = [0; 2];
-    let refused = unsafe { port_set_new(size, out.as_mut_ptr(), 2) };
+    let mut out = Out::new();
+    let refused = unsafe { port_set_new(size, out.ptr(), out.len()) };
+    let out = out.answered(refused);
     answer(refused, set(out))
 }
 
 pub fn set_all(size: u32) -> Answer<TileBitset> {
-    let mut out = [0; 2];
-    let refused = unsafe { port_set_all(size, out.as_mut_ptr(), 2) };
+    let mut out = Out::new();
+    let refused = unsafe { port_set_all(size, out.ptr(), out.len()) };
+    let out = out.answered(refused);
     answer(refused, set(out))
 }
 
 pub fn set_insert(given: TileBitset, colour: u32) -> Answer<TileBitset> {
-    let mut out = [0; 2];
-    let refused = unsafe { port_set_insert(given.bits, given.size, colour, out.as_mut_ptr(), 2) };
+    let mut out = Out::new();
+    let refused = unsafe { port_set_insert(given.bits, given.size, colour, out.ptr(), out.len()) };
+    let out = out.answered(refused);
     answer(refused, set(out))
 }
 
 pub fn set_contains(given: TileBitset, colour: u32) -> Answer<bool> {
-    let mut out = [0; 1];
-    let refused = unsafe { port_set_contains(given.bits, given.size, colour, out.as_mut_ptr(), 1) };
-    answer(refused, out[0] == 1)
+    let mut out = Out::new();
+    let refused = unsafe { port_set_contains(given.bits, given.size, colour, out.ptr(), out.len()) };
+    let [out] = out.answered(refused);
+    answer(refused, out).map(flag)
 }
 
 pub fn set_intersection(given: TileBitset, other: TileBitset) -> Answer<TileBitset> {
-    let mut out = [0; 2];
-    let refused = unsafe { port_set_intersection(given.bits, given.size, other.bits, other.size, out.as_mut_ptr(), 2) };
+    let mut out = Out::new();
+    let refused = unsafe { port_set_intersection(given.bits, given.size, other.bits, other.size, out.ptr(), out.len()) };
+    let out = out.answered(refused);
     answer(refused, set(out))
 }
 
 pub fn set_is_empty(given: TileBitset) -> Answer<bool> {
-    let mut out = [0; 1];
-    let refused = unsafe { port_set_is_empty(given.bits, given.size, out.as_mut_ptr(), 1) };
-    answer(refused, out[0] == 1)
+    let mut out = Out::new();
+    let refused = unsafe { port_set_is_empty(given.bits, given.size, out.ptr(), out.len()) };
+    let [out] = out.answered(refused);
+    answer(refused, out).map(flag)
 }
 
 pub fn set_count(given: TileBitset) -> Answer<usize> {
-    let mut out = [0; 1];
-    let refused = unsafe { port_set_count(given.bits, given.size, out.as_mut_ptr(), 1) };
-    answer(refused, out[0] as usize)
+    let mut out = Out::new();
+    let refused = unsafe { port_set_count(given.bits, given.size, out.ptr(), out.len()) };
+    let [out] = out.answered(refused);
+    answer(refused, out).map(whole)
 }
 
 pub fn set_to_vec(given: TileBitset) -> Answer<ColourList> {
-    let (mut colours, mut len) = ([0; 30], [0; 1]);
-    let refused = unsafe { port_set_to_vec(given.bits, given.size, colours.as_mut_ptr(), 30, len.as_mut_ptr(), 1) };
-    answer(refused, ColourList { colours, len: len[0] as usize })
+    let (mut colours, mut len) = (Out::new(), Out::<u64, 1>::new());
+    let refused = unsafe {
+        port_set_to_vec(given.bits, given.size, colours.ptr(), colours.len(), len.ptr(), len.len())
+    };
+    let (colours, [len]) = (colours.answered(refused), len.answered(refused));
+    answer(refused, (colours, len)).map(|(colours, len)| ColourList { colours, len: whole(len) })
 }
 
 // ---- tiles
@@ -357,71 +384,57 @@ pub fn extract_tiles(
     reflections: bool,
     store: &mut [u8],
 ) -> Answer<usize> {
-    let mut out = [0; 1];
+    let mut out = Out::new();
     let refused = unsafe {
         port_extract_tiles(
-            sample.as_ptr(),
-            sample.len(),
-            rows,
-            cols,
-            count,
-            rotations,
-            reflections,
-            store.as_mut_ptr(),
-            store.len(),
-            out.as_mut_ptr(),
-            1,
+            sample.as_ptr(), sample.len(), rows, cols, count, rotations, reflections, store.as_mut_ptr(), store.len(),
+            out.ptr(), out.len(),
         )
     };
-    answer(refused, out[0] as usize)
+    let [out] = out.answered(refused);
+    answer(refused, out).map(whole)
 }
 
 pub fn rotate_90(tile: [u8; 9]) -> [u8; 9] {
-    let mut out = [0; 9];
-    unsafe { port_rotate_90(tile.as_ptr(), 9, out.as_mut_ptr(), 9) };
-    out
+    let mut out = Out::new();
+    unsafe { port_rotate_90(tile.as_ptr(), tile.len(), out.ptr(), out.len()) };
+    out.cells()
 }
 
 pub fn reflect(tile: [u8; 9]) -> [u8; 9] {
-    let mut out = [0; 9];
-    unsafe { port_reflect(tile.as_ptr(), 9, out.as_mut_ptr(), 9) };
-    out
+    let mut out = Out::new();
+    unsafe { port_reflect(tile.as_ptr(), tile.len(), out.ptr(), out.len()) };
+    out.cells()
 }
 
 pub fn membership(tile: [u8; 9], count: u32) -> Answer<TileBitset> {
-    let mut out = [0; 2];
-    let refused = unsafe { port_membership(tile.as_ptr(), 9, count, out.as_mut_ptr(), 2) };
+    let mut out = Out::new();
+    let refused = unsafe { port_membership(tile.as_ptr(), tile.len(), count, out.ptr(), out.len()) };
+    let out = out.answered(refused);
     answer(refused, set(out))
 }
 
 // ---- fit
 
 pub fn region_count(pieces: &[u32], rows: usize, cols: usize, tiles: &[u8], count: u32, start: Cell) -> Answer<usize> {
-    let mut out = [0; 1];
+    let mut out = Out::new();
     let refused = unsafe {
         port_region_count(
-            pieces.as_ptr(),
-            pieces.len(),
-            rows,
-            cols,
-            tiles.as_ptr(),
-            tiles.len(),
-            count,
-            start.0,
-            start.1,
-            out.as_mut_ptr(),
-            1,
+            pieces.as_ptr(), pieces.len(), rows, cols, tiles.as_ptr(), tiles.len(), count, start.0, start.1,
+            out.ptr(), out.len(),
         )
     };
-    answer(refused, out[0] as usize)
+    let [out] = out.answered(refused);
+    answer(refused, out).map(whole)
 }
 
 pub fn fraction(counts: &[u32], rows: usize, cols: usize, number: usize, cell: Cell) -> Answer<f64> {
-    let mut out = [0.0; 1];
+    let mut out = Out::new();
     let refused = unsafe {
-        port_fraction(counts.as_ptr(), counts.len(), rows, cols, number, cell.0, cell.1, out.as_mut_ptr(), 1)
+        port_fraction(counts.as_ptr(), counts.len(), rows, cols, number, cell.0, cell.1, out.ptr(), out.len())
     };
-    answer(refused, out[0])
+    let [out] = out.answered(refused);
+    answer(refused, out)
 }
 
 pub fn listing(
@@ -433,28 +446,17 @@ pub fn listing(
     world: World,
     offset: Offset,
 ) -> Answer<TileBitset> {
-    let mut out = [0; 2];
+    let mut out = Out::new();
     let refused = unsafe {
         port_listing(
-            pieces.as_ptr(),
-            pieces.len(),
-            rows,
-            cols,
-            tiles.as_ptr(),
-            tiles.len(),
-            count,
-            world.0,
-            world.1,
-            offset.0,
-            offset.1,
-            out.as_mut_ptr(),
-            2,
+            pieces.as_ptr(), pieces.len(), rows, cols, tiles.as_ptr(), tiles.len(), count, world.0, world.1, offset.0,
+            offset.1, out.ptr(), out.len(),
         )
     };
+    let out = out.answered(refused);
     answer(refused, set(out))
 }
 
-#[allow(clippy::too_many_arguments)]
 pub fn forced(
     pieces: &[u32],
     rows: usize,
@@ -466,34 +468,17 @@ pub fn forced(
     bounds: Option<BoundingBox>,
 ) -> Answer<ForcedPositions> {
     let BoundingBox { min, max } = bounds.unwrap_or(BoundingBox { min: World(0, 0), max: World(0, 0) });
-    let (mut coordinates, mut colours, mut len) = ([0; 16], [0; 8], [0; 1]);
+    let (mut coordinates, mut colours, mut len) = (Out::<i32, 16>::new(), Out::<u32, 8>::new(), Out::<u64, 1>::new());
     let refused = unsafe {
         port_forced(
-            pieces.as_ptr(),
-            pieces.len(),
-            rows,
-            cols,
-            tiles.as_ptr(),
-            tiles.len(),
-            count,
-            world.0,
-            world.1,
-            offset.0,
-            offset.1,
-            bounds.is_some(),
-            min.0,
-            min.1,
-            max.0,
-            max.1,
-            coordinates.as_mut_ptr(),
-            16,
-            colours.as_mut_ptr(),
-            8,
-            len.as_mut_ptr(),
-            1,
+            pieces.as_ptr(), pieces.len(), rows, cols, tiles.as_ptr(), tiles.len(), count, world.0, world.1, offset.0,
+            offset.1, bounds.is_some(), min.0, min.1, max.0, max.1, coordinates.ptr(), coordinates.len(),
+            colours.ptr(), colours.len(), len.ptr(), len.len(),
         )
     };
-    answer(refused, ForcedPositions { entries: positions(&coordinates, &colours), len: len[0] as usize })
+    let (coordinates, colours) = (coordinates.answered(refused), colours.answered(refused));
+    let [len] = len.answered(refused);
+    answer(refused, len).map(|len| ForcedPositions { entries: positions(&coordinates, &colours), len: whole(len) })
 }
 
 fn positions<const N: usize>(coordinates: &[i32], colours: &[u32]) -> [ForcedPosition; N] {
@@ -507,102 +492,96 @@ fn positions<const N: usize>(coordinates: &[i32], colours: &[u32]) -> [ForcedPos
 
 /// A queue or a list of forced places as the boundary has it.
 struct Flat<const N: usize, const TWICE: usize> {
-    coordinates: [i32; TWICE],
-    colours: [u32; N],
-    len: [u64; 1],
+    coordinates: Out<i32, TWICE>,
+    colours: Out<u32, N>,
+    len: Out<u64, 1>,
 }
 
-fn flat<const N: usize, const TWICE: usize>(entries: &[ForcedPosition; N], len: usize) -> Flat<N, TWICE> {
-    Flat {
-        coordinates: std::array::from_fn(|at| {
+impl<const N: usize, const TWICE: usize> Flat<N, TWICE> {
+    fn new(entries: &[ForcedPosition; N], len: usize) -> Self {
+        let coordinate = |at: usize| {
             let World(row, col) = entries[at / 2].coordinates;
             if at % 2 == 0 { row } else { col }
-        }),
-        colours: std::array::from_fn(|at| entries[at].colour),
-        len: [len as u64],
+        };
+        Self {
+            coordinates: Out::with(std::array::from_fn(coordinate)),
+            colours: Out::with(std::array::from_fn(|at| entries[at].colour)),
+            len: Out::with([len as u64]),
+        }
+    }
+
+    /// What came back: a refused call gives back what went in, which the comparison sees.
+    fn back(self) -> ([ForcedPosition; N], usize) {
+        let [len] = self.len.cells();
+        (positions(&self.coordinates.cells(), &self.colours.cells()), whole(len))
     }
 }
 
-fn queue(flat: &Flat<64, 128>) -> ForcedPipeline {
-    ForcedPipeline { entries: positions(&flat.coordinates, &flat.colours), len: flat.len[0] as usize }
+fn flat_queue(queue: &ForcedPipeline) -> Flat<64, 128> {
+    Flat::new(&queue.entries, queue.len)
+}
+
+fn queue_back(queue: Flat<64, 128>) -> ForcedPipeline {
+    let (entries, len) = queue.back();
+    ForcedPipeline { entries, len }
 }
 
 pub fn queue_add(given: ForcedPipeline, added: ForcedPositions) -> (Answer<()>, ForcedPipeline) {
-    let mut given: Flat<64, 128> = flat(&given.entries, given.len);
-    let added: Flat<8, 16> = flat(&added.entries, added.len);
+    let mut queue = flat_queue(&given);
+    let mut offered: Flat<8, 16> = Flat::new(&added.entries, added.len);
     let refused = unsafe {
         port_queue_add(
-            given.coordinates.as_mut_ptr(),
-            128,
-            given.colours.as_mut_ptr(),
-            64,
-            given.len.as_mut_ptr(),
-            1,
-            added.coordinates.as_ptr(),
-            16,
-            added.colours.as_ptr(),
-            8,
-            added.len[0] as usize,
+            queue.coordinates.ptr(), queue.coordinates.len(), queue.colours.ptr(), queue.colours.len(),
+            queue.len.ptr(), queue.len.len(), offered.coordinates.ptr(), offered.coordinates.len(),
+            offered.colours.ptr(), offered.colours.len(), added.len,
         )
     };
-    (answer(refused, ()), queue(&given))
+    assert_eq!(offered.back(), (added.entries, added.len), "the port wrote the list that it is offered");
+    (answer(refused, ()), queue_back(queue))
 }
 
 pub fn queue_take(given: ForcedPipeline) -> (Answer<Option<ForcedPosition>>, ForcedPipeline) {
-    let mut given: Flat<64, 128> = flat(&given.entries, given.len);
-    let (mut taken, mut colour, mut found) = ([0; 2], [0; 1], [0; 1]);
+    let mut queue = flat_queue(&given);
+    let (mut taken, mut colour, mut found) = (Out::<i32, 2>::new(), Out::<u32, 1>::new(), Out::<u32, 1>::new());
     let refused = unsafe {
         port_queue_take(
-            given.coordinates.as_mut_ptr(),
-            128,
-            given.colours.as_mut_ptr(),
-            64,
-            given.len.as_mut_ptr(),
-            1,
-            taken.as_mut_ptr(),
-            2,
-            colour.as_mut_ptr(),
-            1,
-            found.as_mut_ptr(),
-            1,
+            queue.coordinates.ptr(), queue.coordinates.len(), queue.colours.ptr(), queue.colours.len(),
+            queue.len.ptr(), queue.len.len(), taken.ptr(), taken.len(), colour.ptr(), colour.len(), found.ptr(),
+            found.len(),
         )
     };
-    let entry = ForcedPosition { coordinates: World(taken[0], taken[1]), colour: colour[0] };
-    (answer(refused, (found[0] == 1).then_some(entry)), queue(&given))
+    let ([row, col], [colour]) = (taken.answered(refused), colour.answered(refused));
+    let [found] = found.answered(refused);
+    let entry = ForcedPosition { coordinates: World(row, col), colour };
+    (answer(refused, found).map(|found| flag(found).then_some(entry)), queue_back(queue))
 }
 
 pub fn queue_is_empty(given: ForcedPipeline) -> Answer<bool> {
-    let given: Flat<64, 128> = flat(&given.entries, given.len);
-    let mut out = [0; 1];
+    let mut queue = flat_queue(&given);
+    let mut out = Out::new();
     let refused = unsafe {
         port_queue_is_empty(
-            given.coordinates.as_ptr(),
-            128,
-            given.colours.as_ptr(),
-            64,
-            given.len[0] as usize,
-            out.as_mut_ptr(),
-            1,
+            queue.coordinates.ptr(), queue.coordinates.len(), queue.colours.ptr(), queue.colours.len(), given.len,
+            out.ptr(), out.len(),
         )
     };
-    answer(refused, out[0] == 1)
+    assert_eq!(queue_back(queue), given, "the port wrote a queue that it only reads");
+    let [out] = out.answered(refused);
+    answer(refused, out).map(flag)
 }
 
 pub fn queue_len(given: ForcedPipeline) -> Answer<usize> {
-    let given: Flat<64, 128> = flat(&given.entries, given.len);
-    let mut out = [0; 1];
+    let mut queue = flat_queue(&given);
+    let mut out = Out::new();
     let refused = unsafe {
         port_queue_len(
-            given.coordinates.as_ptr(),
-            128,
-            given.colours.as_ptr(),
-            64,
-            given.len[0] as usize,
-            out.as_mut_ptr(),
-            1,
+            queue.coordinates.ptr(), queue.coordinates.len(), queue.colours.ptr(), queue.colours.len(), given.len,
+            out.ptr(), out.len(),
         )
     };
-    answer(refused, out[0] as usize)
+    assert_eq!(queue_back(queue), given, "the port wrote a queue that it only reads");
+    let [out] = out.answered(refused);
+    answer(refused, out).map(whole)
 }
 
 // ---- the board
@@ -615,23 +594,15 @@ pub fn scan(
     tiles: &[u8],
     count: u32,
 ) -> Answer<Option<Cell>> {
-    let mut out = [0; 3];
+    let mut out = Out::new();
     let refused = unsafe {
         port_scan(
-            pieces.as_ptr(),
-            pieces.len(),
-            weights.as_ptr(),
-            weights.len(),
-            rows,
-            cols,
-            tiles.as_ptr(),
-            tiles.len(),
-            count,
-            out.as_mut_ptr(),
-            3,
+            pieces.as_ptr(), pieces.len(), weights.as_ptr(), weights.len(), rows, cols, tiles.as_ptr(), tiles.len(),
+            count, out.ptr(), out.len(),
         )
     };
-    answer(refused, (out[0] == 1).then_some(Cell(out[1] as usize, out[2] as usize)))
+    let [found, row, col] = out.answered(refused);
+    answer(refused, found).map(|found| flag(found).then(|| Cell(whole(row), whole(col))))
 }
 
 pub fn raise_weights(weights: &mut [u32], rows: usize, cols: usize, world: World, offset: Offset) -> Answer<()> {
@@ -648,7 +619,6 @@ pub fn lower_weights(weights: &mut [u32], rows: usize, cols: usize, world: World
     answer(refused, ())
 }
 
-#[allow(clippy::too_many_arguments)]
 pub fn recount(
     counts: &mut [u32],
     pieces: &[u32],
@@ -661,19 +631,8 @@ pub fn recount(
 ) -> Answer<()> {
     let refused = unsafe {
         port_recount(
-            counts.as_mut_ptr(),
-            counts.len(),
-            pieces.as_ptr(),
-            pieces.len(),
-            rows,
-            cols,
-            tiles.as_ptr(),
-            tiles.len(),
-            count,
-            world.0,
-            world.1,
-            offset.0,
-            offset.1,
+            counts.as_mut_ptr(), counts.len(), pieces.as_ptr(), pieces.len(), rows, cols, tiles.as_ptr(), tiles.len(),
+            count, world.0, world.1, offset.0, offset.1,
         )
     };
     answer(refused, ())
@@ -689,21 +648,13 @@ pub fn fresh(
 ) -> Answer<()> {
     let refused = unsafe {
         port_fresh(
-            pieces.as_mut_ptr(),
-            pieces.len(),
-            weights.as_mut_ptr(),
-            weights.len(),
-            counts.as_mut_ptr(),
-            counts.len(),
-            rows,
-            cols,
-            number,
+            pieces.as_mut_ptr(), pieces.len(), weights.as_mut_ptr(), weights.len(), counts.as_mut_ptr(), counts.len(),
+            rows, cols, number,
         )
     };
     answer(refused, ())
 }
 
-#[allow(clippy::too_many_arguments)]
 pub fn lay(
     pieces: &mut [u32],
     weights: &mut [u32],
@@ -718,28 +669,13 @@ pub fn lay(
 ) -> Answer<()> {
     let refused = unsafe {
         port_lay(
-            pieces.as_mut_ptr(),
-            pieces.len(),
-            weights.as_mut_ptr(),
-            weights.len(),
-            counts.as_mut_ptr(),
-            counts.len(),
-            rows,
-            cols,
-            tiles.as_ptr(),
-            tiles.len(),
-            count,
-            world.0,
-            world.1,
-            offset.0,
-            offset.1,
-            colour,
+            pieces.as_mut_ptr(), pieces.len(), weights.as_mut_ptr(), weights.len(), counts.as_mut_ptr(), counts.len(),
+            rows, cols, tiles.as_ptr(), tiles.len(), count, world.0, world.1, offset.0, offset.1, colour,
         )
     };
     answer(refused, ())
 }
 
-#[allow(clippy::too_many_arguments)]
 pub fn lift(
     pieces: &mut [u32],
     weights: &mut [u32],
@@ -753,21 +689,8 @@ pub fn lift(
 ) -> Answer<()> {
     let refused = unsafe {
         port_lift(
-            pieces.as_mut_ptr(),
-            pieces.len(),
-            weights.as_mut_ptr(),
-            weights.len(),
-            counts.as_mut_ptr(),
-            counts.len(),
-            rows,
-            cols,
-            tiles.as_ptr(),
-            tiles.len(),
-            count,
-            world.0,
-            world.1,
-            offset.0,
-            offset.1,
+            pieces.as_mut_ptr(), pieces.len(), weights.as_mut_ptr(), weights.len(), counts.as_mut_ptr(), counts.len(),
+            rows, cols, tiles.as_ptr(), tiles.len(), count, world.0, world.1, offset.0, offset.1,
         )
     };
     answer(refused, ())
@@ -786,23 +709,13 @@ pub fn normalise(
 ) -> Answer<()> {
     let refused = unsafe {
         port_normalise(
-            probabilities.as_ptr(),
-            probabilities.len(),
-            rows,
-            cols,
-            count,
-            world.0,
-            world.1,
-            offset.0,
-            offset.1,
-            out.as_mut_ptr(),
-            out.len(),
+            probabilities.as_ptr(), probabilities.len(), rows, cols, count, world.0, world.1, offset.0, offset.1,
+            out.as_mut_ptr(), out.len(),
         )
     };
     answer(refused, ())
 }
 
-#[allow(clippy::too_many_arguments)]
 pub fn product(
     probabilities: &mut [f64],
     rows: usize,
@@ -817,26 +730,13 @@ pub fn product(
 ) -> Answer<()> {
     let refused = unsafe {
         port_product(
-            probabilities.as_mut_ptr(),
-            probabilities.len(),
-            rows,
-            cols,
-            count,
-            block.as_ptr(),
-            block.len(),
-            block_rows,
-            block_cols,
-            world.0,
-            world.1,
-            offset.0,
-            offset.1,
-            radius,
+            probabilities.as_mut_ptr(), probabilities.len(), rows, cols, count, block.as_ptr(), block.len(),
+            block_rows, block_cols, world.0, world.1, offset.0, offset.1, radius,
         )
     };
     answer(refused, ())
 }
 
-#[allow(clippy::too_many_arguments)]
 pub fn quotient(
     probabilities: &mut [f64],
     rows: usize,
@@ -851,20 +751,8 @@ pub fn quotient(
 ) -> Answer<()> {
     let refused = unsafe {
         port_quotient(
-            probabilities.as_mut_ptr(),
-            probabilities.len(),
-            rows,
-            cols,
-            count,
-            block.as_ptr(),
-            block.len(),
-            block_rows,
-            block_cols,
-            world.0,
-            world.1,
-            offset.0,
-            offset.1,
-            radius,
+            probabilities.as_mut_ptr(), probabilities.len(), rows, cols, count, block.as_ptr(), block.len(),
+            block_rows, block_cols, world.0, world.1, offset.0, offset.1, radius,
         )
     };
     answer(refused, ())
@@ -881,17 +769,8 @@ pub fn lay_score(
 ) -> Answer<()> {
     let refused = unsafe {
         port_lay_score(
-            scores.as_mut_ptr(),
-            scores.len(),
-            counts.as_ptr(),
-            counts.len(),
-            rows,
-            cols,
-            number,
-            world.0,
-            world.1,
-            offset.0,
-            offset.1,
+            scores.as_mut_ptr(), scores.len(), counts.as_ptr(), counts.len(), rows, cols, number, world.0, world.1,
+            offset.0, offset.1,
         )
     };
     answer(refused, ())
@@ -908,17 +787,8 @@ pub fn lift_score(
 ) -> Answer<()> {
     let refused = unsafe {
         port_lift_score(
-            scores.as_mut_ptr(),
-            scores.len(),
-            counts.as_ptr(),
-            counts.len(),
-            rows,
-            cols,
-            number,
-            row_span.0,
-            row_span.1,
-            col_span.0,
-            col_span.1,
+            scores.as_mut_ptr(), scores.len(), counts.as_ptr(), counts.len(), rows, cols, number, row_span.0,
+            row_span.1, col_span.0, col_span.1,
         )
     };
     answer(refused, ())

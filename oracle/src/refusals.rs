@@ -32,15 +32,15 @@ fn length(len: usize, wanted: &[usize]) -> bool {
 }
 
 fn tile_list(tiles: &[u8]) -> bool {
-    tiles.len() % 9 != 0 || tile_number(tiles.len() / 9)
+    !tiles.len().is_multiple_of(9) || tile_number(tiles.len() / 9)
 }
 
 fn tile_number(number: usize) -> bool {
-    number < 1 || number > MAX_TILES
+    !(1..=MAX_TILES).contains(&number)
 }
 
 fn count(count: u32) -> bool {
-    count < 1 || count > MAX_COLOURS
+    !(1..=MAX_COLOURS).contains(&count)
 }
 
 fn byte_cells(cells: &[u8], count: u32) -> bool {

@@ -35,7 +35,22 @@ struct Picture {
 }
 
 impl Picture {
-    fn new(colours: u32, (rows, cols, _): (usize, usize, usize), random: &mut Random) -> Self {
+    /// Of some random patches that with the most distinct tiles: with few colours some are equal.
+    fn new(colours: u32, patch: (usize, usize, usize), random: &mut Random) -> Self {
+        let mut picture = Self::of(colours, patch, random);
+        for _ in 0..200 {
+            if picture.tiles.len() == patch.2 * 9 || patch.2 > 1_000 {
+                break;
+            }
+            let other = Self::of(colours, patch, random);
+            if other.tiles.len() > picture.tiles.len() {
+                picture = other;
+            }
+        }
+        picture
+    }
+
+    fn of(colours: u32, (rows, cols, _): (usize, usize, usize), random: &mut Random) -> Self {
         let patch: Vec<u8> = (0..rows * cols).map(|_| 1 + random.below(colours as usize) as u8).collect();
         let at = |row: usize, col: usize| patch[row % rows * cols + col % cols];
         let sample_sides = [rows + 2, cols + 2];

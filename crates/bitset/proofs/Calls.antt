@@ -1,6 +1,6 @@
--- What the exits of the calls answer: a refusal with its number, or the result; and what a set that passed its checks is.
+-- The exits of the calls that answer no set, and what a set that passed its checks is.
 -- Assumes nothing.
-use Prim.Native.Nat.{ℕ, zero, suc, _^_, _<_, _≤_}
+use Prim.Native.Nat.{ℕ, _^_, _<_, _≤_}
 use mathlib.Core.Path.{_≡_, refl, sym, _∙_, ap}
 use mathlib.Core.Bool.{Bool, true}
 use mathlib.Core.List.{List, []}
@@ -11,29 +11,13 @@ use Rattle.base.proofs.Chain.{passed}
 use Rattle.base.proofs.Numbers.{within-high}
 use Rattle.rules.specs.Bounds.{maxColours, CELL}
 use Rattle.rules.specs.Tests.{colourCount}
-use Rattle.rules.specs.Answers.{setAnswer, verdictAnswer, numberAnswer}
+use Rattle.rules.specs.Answers.{verdictAnswer, numberAnswer}
 use Rattle.rules.specs.Sets.{marksWithin, setChecks, setsChecks, listedOr, colourList}
 use Rattle.rules.specs.declared.TileBitset.{TileBitset}
-use Rattle.rules.specs.declared.SetAnswer.the-variants as SetAnswer·
 use Rattle.rules.specs.declared.Verdict.the-variants as Verdict·
 use Rattle.rules.specs.declared.Number.the-variants as Number·
 use Rattle.rules.specs.declared.ColourList.{ColourList}
-
--- an answer of any kind: its refusals and its result
-module _ {A B : Type 0} (answer : ℕ → A → B) (refused : ℕ → B) (told : A → B) (no : (n : ℕ) (a : A) → answer (suc n) a ≡ refused (suc n))
-    (yes : (a : A) → answer 0 a ≡ told a) where
-  refuses : (n r : ℕ) (a : A) → n ≡ r → (n ≡ 0 → ⊥) → refused n ≡ answer r a
-  refuses zero r a e h = absurd (h refl)
-  refuses (suc n) r a e h = sym (no n a) ∙ ap (λ (m : ℕ). answer m a) e
-
-  tells : (n r : ℕ) (x a : A) → n ≡ r → n ≡ 0 → x ≡ a → told x ≡ answer r a
-  tells n r x a e z p = sym (yes x) ∙ ap (answer 0) p ∙ ap (λ (m : ℕ). answer m a) (sym z ∙ e)
-
-pub set-refused : (n r : ℕ) (a : TileBitset) → n ≡ r → (n ≡ 0 → ⊥) → SetAnswer·.Refused n ≡ setAnswer r a
-set-refused = refuses setAnswer SetAnswer·.Refused SetAnswer·.Set (λ n a. refl) (λ a. refl)
-
-pub set-told : (n r : ℕ) (x a : TileBitset) → n ≡ r → n ≡ 0 → x ≡ a → SetAnswer·.Set x ≡ setAnswer r a
-set-told = tells setAnswer SetAnswer·.Refused SetAnswer·.Set (λ n a. refl) (λ a. refl)
+use Rattle.sets.proofs.Calls.{refuses, tells}
 
 pub verdict-refused : (n r : ℕ) (a : Bool) → n ≡ r → (n ≡ 0 → ⊥) → Verdict·.Refused n ≡ verdictAnswer r a
 verdict-refused = refuses verdictAnswer Verdict·.Refused Verdict·.Is (λ n a. refl) (λ a. refl)
@@ -78,6 +62,3 @@ both-sound s u n e z =
     let b = passed 2 (eqb (s .size) (u .size)) _ (a .1) in
     let d = passed 3 (marksWithin s) (CELL unless marksWithin u or accepted) (b .1) in
     record { few = count-few (s .size) (a .0); marked = marks s (d .0) }
-
-abbrev pub sized : ℕ → ℕ → TileBitset
-sized n x = record { bits = x; size = n }

@@ -5,7 +5,6 @@
 --     bits-back     a number below 2 ^ n is the set of what it has
 --     same-set      two sets with the same colours are equal
 --     none-is, all-is, one-is   the set of none, of all, of one
---     set-size, set-bits, set-lt   what a caller has of a set that is said to be `setOf n f`
 -- Assumes nothing.
 use Prim.Native.Nat.{ℕ, zero, suc, _+_, _-_, _*_, _/_, _%_, _^_, _≤_, _<_, zero-le, suc-le-suc}
 use mathlib.Core.Path.{_≡_, refl, sym, _∙_, ap, subst}
@@ -18,8 +17,7 @@ use borrow.Author.Tests.{eq-eqb, ne-eqb}
 use lib.Dec.{eqb}
 use lib.Pow.{pow-pos, pow-mono, split, high, low, field, mod-mod-pow, shr-lt}
 use Rattle.base.specs.Counting.{pick}
-use Rattle.rules.specs.Sets.{has, bitsOf, setOf}
-use Rattle.rules.specs.declared.TileBitset.{TileBitset}
+use Rattle.rules.specs.Sets.{has, bitsOf}
 
 pick-le : (b : Bool) (a : ℕ) → pick b a 0 ≤ a
 pick-le true a = le-refl a
@@ -132,14 +130,3 @@ one-is (suc n) k l = ⊎-elim (λ e. here e) (λ lt. below lt (one-is n k lt)) (
 
     below : k < n → 2 ^ k ≡ bitsOf n (λ t. eqb t (suc k)) → 2 ^ k ≡ bitsOf n (λ t. eqb t (suc k)) + pick (eqb (suc n) (suc k)) (2 ^ n) 0
     below lt ih = rw (ne-eqb (suc n) (suc k) (λ r. omega arith)) (omega arith)
-
--- what a caller has of a set that is said to be `setOf n f`
-module _ (s : TileBitset) (n : ℕ) (f : ℕ → Bool) (e : s ≡ setOf n f) where
-  pub set-size : s .size ≡ n
-  set-size = ap (λ (x : TileBitset). x .size) e
-
-  pub set-bits : s .bits ≡ bitsOf n f
-  set-bits = ap (λ (x : TileBitset). x .bits) e
-
-  pub set-lt : s .bits < 2 ^ (s .size)
-  set-lt = rw e (bits-lt n f)

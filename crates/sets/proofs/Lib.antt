@@ -1,4 +1,5 @@
 pub mod Digits
 pub mod Words
 pub mod Colours
+pub mod Calls
 pub mod Coincide

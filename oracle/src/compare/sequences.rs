@@ -211,7 +211,7 @@ impl Input for SequenceInput {
             let cells = rows * cols;
             let call = |kind: usize| {
                 let world = World((kind / 2 / cols) as i32, (kind / 2 % cols) as i32);
-                if kind % 2 == 0 { Call::Lay(world, 1 + (kind as u32 / 2) % 2) } else { Call::Lift(world) }
+                if kind.is_multiple_of(2) { Call::Lay(world, 1 + (kind as u32 / 2) % 2) } else { Call::Lift(world) }
             };
             for number in 0..(2 * cells).pow(3) {
                 let kinds = [number % (2 * cells), number / (2 * cells) % (2 * cells), number / (2 * cells).pow(2)];

@@ -4,7 +4,8 @@ use native.Mathlib.Omega.{arith}
 use Rattle.rules.specs.Sets.{fullSet}
 use Rattle.base.proofs.Chain.{refuse, pass, no-check}
 use Rattle.base.proofs.Bools.{passes}
-use Rattle.bitset.proofs.Calls.{set-refused, set-told, count-few, sized}
+use Rattle.sets.proofs.Calls.{set-refused, set-told, sized}
+use Rattle.bitset.proofs.Calls.{count-few}
 use borrow.Author.Needs.{needs}
 use Rattle.bitset.proofs.all.Statement.{statement}
 use Rattle.bitset.proofs.all.Tie as tie

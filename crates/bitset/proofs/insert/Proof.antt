@@ -3,7 +3,8 @@ use mathlib.Core.Path.{ap}
 use native.Mathlib.Omega.{arith}
 use Rattle.rules.specs.Sets.{inserted}
 use Rattle.sets.proofs.Words.{past-is}
-use Rattle.bitset.proofs.Calls.{set-refused, set-told, sound, sized}
+use Rattle.sets.proofs.Calls.{set-refused, set-told, sized}
+use Rattle.bitset.proofs.Calls.{sound}
 use borrow.Author.Needs.{needs}
 use Rattle.bitset.proofs.insert.Statement.{statement}
 use Rattle.bitset.proofs.insert.Tie as tie

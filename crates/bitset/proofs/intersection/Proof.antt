@@ -1,7 +1,8 @@
 -- `bitset::intersection` meets its contract: a refusal, or the common bits. Assumes nothing.
 use mathlib.Core.Path.{ap}
 use Rattle.rules.specs.Sets.{intersected}
-use Rattle.bitset.proofs.Calls.{set-refused, set-told, both-sound, sized}
+use Rattle.sets.proofs.Calls.{set-refused, set-told, sized}
+use Rattle.bitset.proofs.Calls.{both-sound}
 use borrow.Author.Needs.{needs}
 use Rattle.bitset.proofs.intersection.Statement.{statement}
 use Rattle.bitset.proofs.intersection.Tie as tie

@@ -4,7 +4,7 @@ use native.Mathlib.Omega.{arith}
 use Rattle.rules.specs.Sets.{emptySet}
 use Rattle.base.proofs.Chain.{refuse-by, pass-by, no-check}
 use Rattle.sets.proofs.Digits.{none-is}
-use Rattle.bitset.proofs.Calls.{set-refused, set-told, sized}
+use Rattle.sets.proofs.Calls.{set-refused, set-told, sized}
 use borrow.Author.Needs.{needs}
 use Rattle.bitset.proofs.new.Statement.{statement}
 use Rattle.bitset.proofs.new.Tie as tie

@@ -24,7 +24,7 @@ pub mod vec {
     impl BitVec {
         pub fn repeat(bit: bool, len: usize) -> Self {
             let mut words = vec![if bit { u64::MAX } else { 0 }; len.div_ceil(WORD)];
-            if bit && len % WORD != 0 {
+            if bit && !len.is_multiple_of(WORD) {
                 *words.last_mut().unwrap() = (1 << (len % WORD)) - 1;
             }
             Self { words, len }

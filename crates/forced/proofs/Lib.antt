@@ -1,0 +1,5 @@
+pub mod Beside
+pub mod Entries
+pub mod Round
+pub mod Accepted
+pub mod Coincide

@@ -1,0 +1,43 @@
+-- Forced neighbours once the checks are made: what the functions beneath the call lean on, and their answers one neighbour at a time.
+use Prim.Native.Nat.{ℕ}
+use mathlib.Core.Path.{_≡_}
+use mathlib.Core.Bool.{Bool, true}
+use mathlib.Core.List.{List, [], _∷_, _++_}
+use lib.Dec.{eqb}
+use Rattle.base.specs.Counting.{pick}
+use Rattle.base.specs.Refusal.{Checks, accepted, _unless_or_}
+use Rattle.rules.specs.Bounds.{PLACE}
+use Rattle.rules.specs.Tests.{onWall}
+use Rattle.rules.specs.Grid.{flat, numberOf}
+use Rattle.rules.specs.Fit.{placeChecks}
+use Rattle.rules.specs.Forced.{boundsFit, listedAt, only, isForced}
+use Rattle.rules.specs.declared.World.{World}
+use Rattle.rules.specs.declared.Offset.{Offset}
+use Rattle.rules.specs.declared.GenerationBounds.{GenerationBounds}
+use Rattle.rules.specs.declared.ForcedPosition.{ForcedPosition}
+use Rattle.fit.specs.Ready.{Ready}
+
+-- pieces, tiles and colours that are ready, and a place on the wall
+pub record Roundable (pieces : List ℕ) (rows cols : ℕ) (tiles : List ℕ) (count : ℕ) (w : World) : Type 0 where
+  pub ready : Ready pieces rows cols tiles count
+  pub walled : onWall w ≡ true
+
+-- the eight neighbours row by row, by their places in the 3x3; the place itself is 4
+abbrev pub roundOrder : List ℕ
+roundOrder = 0 ∷ 1 ∷ 2 ∷ 3 ∷ 5 ∷ 6 ∷ 7 ∷ 8 ∷ []
+
+-- the colour that is forced at a place, 0 where none is
+unfoldable pub forcedColour : List ℕ → ℕ → ℕ → List ℕ → ℕ → World → Offset → GenerationBounds → ℕ
+forcedColour pieces rows cols tiles count w o b =
+    pick (isForced pieces rows cols tiles count w o b) (only (listedAt (flat rows cols) tiles pieces count (numberOf cols w o))) 0
+
+-- one position more, unless its colour is 0
+unfoldable pub withForced : List ForcedPosition → World → ℕ → List ForcedPosition
+withForced l w colour = l ++ pick (eqb colour 0) [] (record { coordinates = w; colour = colour } ∷ [])
+
+-- the checks of the place and of the box, which follow those of the pieces and tiles
+abbrev pub afterPlace : GenerationBounds → Checks
+afterPlace b = PLACE unless boundsFit b or accepted
+
+abbrev pub afterPieces : ℕ → ℕ → World → Offset → GenerationBounds → Checks
+afterPieces rows cols w o b = placeChecks rows cols w o (afterPlace b)

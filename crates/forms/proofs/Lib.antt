@@ -1,0 +1,3 @@
+pub mod Variants
+pub mod Symmetry
+pub mod Coincide

@@ -1,0 +1,5 @@
+pub mod Written
+pub mod Texts
+pub mod Echo
+pub mod Coincide
+pub mod Cases

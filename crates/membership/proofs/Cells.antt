@@ -1,0 +1,40 @@
+-- The set of a tile's colours, gathered cell by cell. Assumes nothing.
+use Prim.Native.Nat.{ℕ, _+_, _^_, _<_, _≤_}
+use mathlib.Core.Path.{_≡_, sym, _∙_, ap}
+use mathlib.Core.Bool.{Bool, true, false, _||_}
+use mathlib.Core.List.{List}
+use borrow.Author.Tests.{leb-true}
+use lib.Dec.{eqb}
+use lib.ListN.{length, getD}
+use Rattle.base.specs.Counting.{some}
+use Rattle.base.proofs.Counted.{every-at, some-none, some-more}
+use Rattle.rules.specs.Bounds.{maxColours}
+use Rattle.rules.specs.Tests.{colourCount, entryUpTo, noneAbove}
+use Rattle.base.proofs.Numbers.{within-high}
+use Rattle.rules.specs.Sets.{has, bitsOf}
+use Rattle.sets.proofs.Digits.{bits-lt, bits-ext, bits-has, none-is}
+
+-- the colours of the first k cells
+abbrev pub coloursTo : List ℕ → ℕ → ℕ → ℕ
+coloursTo tile count k = bitsOf count (λ t. some k (λ j. eqb t (getD tile j 0)))
+
+pub to-none : (tile : List ℕ) (count : ℕ) → 0 ≡ coloursTo tile count 0
+to-none tile count = none-is count ∙ bits-ext count (λ t. false) (λ t. some 0 (λ j. eqb t (getD tile j 0))) (λ t a b. sym (some-none (λ j. eqb t (getD tile j 0))))
+
+pub to-turn : (tile : List ℕ) (count k bits r : ℕ) → bits ≡ coloursTo tile count k → getD tile k 0 ≤ count
+    → ((n : ℕ) → bits < 2 ^ n → getD tile k 0 ≤ n → r ≡ bitsOf n (λ u. has bits u || eqb u (getD tile k 0))) → r ≡ coloursTo tile count (k + 1)
+to-turn tile count k bits r e h w =
+    w count (rw e (bits-lt count (λ t. some k (λ j. eqb t (getD tile j 0))))) h
+    ∙ bits-ext count (λ u. has bits u || eqb u (getD tile k 0)) (λ t. some (k + 1) (λ j. eqb t (getD tile j 0)))
+    (λ u a b. ap (λ (x : ℕ). has x u || eqb u (getD tile k 0)) e
+    ∙ ap (λ (x : Bool). x || eqb u (getD tile k 0)) (bits-has count (λ t. some k (λ j. eqb t (getD tile j 0))) u a b)
+    ∙ sym (some-more (λ j. eqb u (getD tile j 0)) k))
+
+-- a cell of a plane none of which is above the count
+pub cell-le : (plane : List ℕ) (count k : ℕ) → noneAbove plane count ≡ true → k < length plane → getD plane k 0 ≤ count
+unfolding noneAbove
+cell-le plane count k e h = leb-true (getD plane k 0) count (every-at (entryUpTo plane count) (length plane) e k h)
+
+pub count-few : (count : ℕ) → colourCount count ≡ true → count ≤ maxColours
+unfolding colourCount
+count-few count e = within-high 1 maxColours count e

@@ -1,0 +1,4 @@
+pub mod Search
+pub mod Accepted
+pub mod First
+pub mod Coincide

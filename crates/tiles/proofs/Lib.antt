@@ -1,0 +1,4 @@
+pub mod Store
+pub mod Answers
+pub mod Meaning
+pub mod Coincide

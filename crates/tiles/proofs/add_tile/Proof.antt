@@ -1,0 +1,72 @@
+-- `tiles::add_tile` meets its contract: the tile is there, or there is no room for it, or it is put. Assumes nothing.
+use mathlib.Core.Path.{sym, _∙_}
+use native.Mathlib.Omega.{arith}
+use lib.ListN.{length-take}
+use Rattle.tiles.proofs.Store.{held, no-room, put}
+use borrow.Author.Needs.{needs}
+use Rattle.tiles.proofs.add_tile.Statement.{statement}
+use Rattle.tiles.proofs.add_tile.Tie as tie
+
+mul-at : tie.Need-mul-at
+mul-at c = search needs
+
+slice-reshare-prefix-has-tile : tie.Need-slice-reshare-prefix-has-tile
+slice-reshare-prefix-has-tile c = search needs
+
+slice-aggregate-has-tile : tie.Need-slice-aggregate-has-tile
+slice-aggregate-has-tile c = sym (simp length-take (omega arith))
+
+has-tile-requires : tie.Need-has-tile-requires
+has-tile-requires c κs = search needs
+
+same-length : tie.Need-same-length
+same-length c = search needs
+
+returns : tie.Need-returns
+returns c = let s = c .before .before .before .before in
+    held _ _ _ (s .pre .0) (s .pre .1) (sym (c .before .has-tile .ensures) ∙ c .if1 .taken)
+
+sub-if2 : tie.Need-sub-if2
+sub-if2 c = search needs
+
+add-result : tie.Need-add-result
+add-result c = search needs
+
+same-length-2 : tie.Need-same-length-2
+same-length-2 c = search needs
+
+returns-2 : tie.Need-returns-2
+returns-2 c = let s = c .before .before .before .before .before in
+    no-room _ _ _ (s .pre .0) (s .pre .1) (sym (c .before .before .has-tile .ensures) ∙ c .before .if1 .left) (c .if2 .taken)
+
+put-tile-requires : tie.Need-put-tile-requires
+put-tile-requires c κs = search needs
+
+add-result-2 : tie.Need-add-result-2
+add-result-2 c = search needs
+
+same-length-3 : tie.Need-same-length-3
+same-length-3 c = search needs
+
+returns-3 : tie.Need-returns-3
+returns-3 c = let s = c .before .before .before .before .before .before .before .before .before in
+    put _ _ _ (s .pre .0) (s .pre .1) _ (sym (c .before .before .before .before .before .before .has-tile .ensures) ∙ c .before .before .before .before .before .if1 .left) (c .before .before .before .before .if2 .left) (c .before .before .put-tile .ensures)
+
+pub add-tile-spec : {M : Type 1} → statement M
+add-tile-spec =
+    tie.close
+    (tie.spec
+    mul-at
+    slice-reshare-prefix-has-tile
+    slice-aggregate-has-tile
+    has-tile-requires
+    same-length
+    returns
+    sub-if2
+    add-result
+    same-length-2
+    returns-2
+    put-tile-requires
+    add-result-2
+    same-length-3
+    returns-3)

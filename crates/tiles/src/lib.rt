@@ -1,0 +1,136 @@
+// The text's spatial/tiles.rs: every distinct 3x3 tile of a sample, in order of first appearance, into a store that the caller lends.
+ghost use mathlib.Core.Path.{_≡_};
+ghost use mathlib.Core.Bool.{true};
+ghost use Prim.Native.Nat.{_+_, _*_, _/_, _<_, _≤_};
+ghost use lib.ListN.{length, take};
+ghost use lib.Seq.{paste};
+ghost use Rattle.base.specs.Refusal.{refusal, accepted, Gives};
+ghost use Rattle.rules.specs.Answers.{tileAnswer};
+ghost use Rattle.rules.specs.Tests.{tilesIn};
+ghost use Rattle.rules.specs.Tiles.{sameTile, hasTile, withTile, storeWith, extracted, sampleChecks, roomCheck, extraction, storeAfter};
+ghost use Rattle.forms.specs.Sample.{Sample};
+use rules::TileNumber;
+
+// Tile n of a list equals a tile. The comparison leaves at the first cell that differs.
+fn same_tile(tiles: &[u8], n: usize, tile: &[u8; 9]) -> bool
+    requires { ⌜ n < tilesIn (now tiles) ⌝ }
+    ensures { λ r. ⌜ r ≡ sameTile (now (tiles .entry)) (now (tile .entry)) n ⌝ }
+{
+    let at = n * 9;
+    let mut k = 0;
+    while k < 9 {
+        if tiles[at + k] != tile[k] {
+            return false;
+        }
+        k += 1;
+    }
+    true
+}
+
+fn has_tile(tiles: &[u8], tile: &[u8; 9]) -> bool
+    ensures { λ r. ⌜ r ≡ hasTile (now (tiles .entry)) (now (tile .entry)) ⌝ }
+{
+    let all = tiles.len() / 9;
+    let mut n = 0;
+    while n < all {
+        if same_tile(tiles, n, tile) {
+            return true;
+        }
+        n += 1;
+    }
+    false
+}
+
+fn put_tile(store: &mut [u8], at: usize, tile: &[u8; 9])
+    requires { ⌜ (at + 9 ≤ length (now store)) × (length (now tile) ≡ 9) ⌝ }
+    ensures { λ _. ⌜ now (store .exit) ≡ paste (now (store .entry)) at (now (tile .entry)) 9 ⌝ }
+{
+    let mut k = 0;
+    while k < 9 {
+        store[at + k] = tile[k];
+        k += 1;
+    }
+}
+
+// Adds a tile to the n tiles of the store, unless they have it or there is no room for it whole. Answers how many there are then to be
+// kept: one more than fit, where there is no room.
+fn add_tile(store: &mut [u8], n: usize, tile: &[u8; 9]) -> usize
+    requires { ⌜ (n ≤ tilesIn (now store)) × (length (now tile) ≡ 9) ⌝ }
+    ensures { λ r. ⌜ (r ≡ tilesIn (withTile (take (n * 9) (now (store .entry))) (now (tile .entry)))) × (now (store .exit) ≡ storeWith (withTile (take (n * 9) (now (store .entry))) (now (tile .entry))) (now (store .entry))) ⌝ }
+{
+    let at = n * 9;
+    if has_tile(&store[..at], tile) {
+        return n;
+    }
+    if store.len() - at < 9 {
+        return n + 1;
+    }
+    put_tile(store, at, tile);
+    n + 1
+}
+
+// Gathers the distinct tiles of a sample that passed its checks. The store is read no further than the tiles written to it.
+fn gather(
+    store: &mut [u8],
+    source: &[u8],
+    rows: usize,
+    cols: usize,
+    rotations: bool,
+    reflections: bool,
+) -> TileNumber
+    requires { ⌜ Sample (now source) rows cols ⌝ }
+    ensures { λ a. ⌜ Gives (tileAnswer (refusal (roomCheck (extracted (now (source .entry)) rows cols rotations reflections) (now (store .entry)))) (tilesIn (extracted (now (source .entry)) rows cols rotations reflections))) (storeWith (extracted (now (source .entry)) rows cols rotations reflections) (now (store .entry))) a (now (store .exit)) ⌝ }
+{
+    let total = forms::variants_of(rows, cols, rotations, reflections);
+    let room = store.len() / 9;
+    let mut n = 0;
+    let mut v = 0;
+    while v < total {
+        let tile = forms::variant_of(source, rows, cols, rotations, reflections, v);
+        let kept = add_tile(store, n, &tile);
+        if room < kept {
+            return TileNumber::Refused(rules::ROOM);
+        }
+        n = kept;
+        v += 1;
+    }
+    TileNumber::Tiles(n)
+}
+
+fn sample_refusal(source: &[u8], rows: usize, cols: usize, count: u32) -> u8
+    ensures { λ r. ⌜ r ≡ refusal (sampleChecks (now (source .entry)) rows cols count accepted) ⌝ }
+{
+    if !checks::sample_sides(rows, cols) {
+        return rules::SHAPE;
+    }
+    if !checks::bytes_have_length(source, rows * cols) {
+        return rules::LENGTH;
+    }
+    if !checks::colour_count(count) {
+        return rules::COUNT;
+    }
+    if !checks::no_byte_above(source, count) {
+        return rules::CELL;
+    }
+    0
+}
+
+// Every distinct tile, turned and mirrored if asked, nine bytes each; answers their number. ROOM leaves the first tiles that fit whole;
+// any other refusal touches nothing.
+pub fn extract_tiles(
+    source: &[u8],
+    rows: usize,
+    cols: usize,
+    count: u32,
+    rotations: bool,
+    reflections: bool,
+    store: &mut [u8],
+) -> TileNumber
+    ensures { λ a. ⌜ Gives (extraction (now (source .entry)) rows cols count rotations reflections (now (store .entry))) (storeAfter (now (source .entry)) rows cols count rotations reflections (now (store .entry))) a (now (store .exit)) ⌝ }
+{
+    let refused = sample_refusal(source, rows, cols, count);
+    if refused != 0 {
+        return TileNumber::Refused(refused);
+    }
+    gather(store, source, rows, cols, rotations, reflections)
+}
