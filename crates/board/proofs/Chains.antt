@@ -10,21 +10,22 @@ use lib.Dec.{ltb, leb}
 use lib.ListN.{length, getD}
 use borrow.Author.Tests.{lt-ltb, le-ltb, lt-leb, le-leb}
 use Rattle.base.specs.Counting.{within}
+use Rattle.base.specs.Tables.{tab}
 use Rattle.base.specs.Refusal.{Checks, accepted, _unless_or_, refusal}
 use Rattle.base.proofs.Numbers.{cell-lt, mul-le, within-is, within-high}
 use Rattle.base.proofs.Bools.{and-no-left, and-no-right}
 use Rattle.base.proofs.Chain.{passed, pass-by, refuse-by, no-check, _then_, stopped, went-on, numbered}
 use Rattle.rules.specs.Bounds.{maxWeight, SHAPE, LENGTH, COUNT, CELL, PLACE, TYPE, TAKEN, BARE}
-use Rattle.rules.specs.Tests.{boardSides, hasLength, wholeTiles, tilesIn, colourCount, noneAbove, piecesStored, onBoard}
+use Rattle.rules.specs.Tests.{boardSides, hasLength, wholeTiles, tilesIn, tileNumber, colourCount, noneAbove, piecesStored, onBoard}
 use Rattle.rules.specs.Places.{cellOf}
 use Rattle.rules.specs.Grid.{laidOn}
 use Rattle.rules.specs.Fit.{piecesChecks, placeChecks}
-use Rattle.rules.specs.Board.{boardChecks}
+use Rattle.rules.specs.Board.{boardChecks, freshChecks, freshBoard}
 use Rattle.rules.specs.declared.World.{World}
 use Rattle.rules.specs.declared.Offset.{Offset}
 use Rattle.rules.specs.declared.Cell.{Cell}
 use Rattle.rules.specs.declared.Span.{Span}
-use Rattle.checks.proofs.Sides.{none-above, count-most}
+use Rattle.checks.proofs.Sides.{none-above, count-most, long}
 use Rattle.fit.specs.Ready.{Countable}
 use Rattle.fit.proofs.Accepted.{accepted-ready}
 use Rattle.steps.specs.Near.{OnPlane, Nearby, lightFrom}
@@ -137,3 +138,30 @@ colour-low pieces weights counts tiles count n k colour e f =
     let a = passed 2 (colourCount count) _ e in
     let b = passed 6 (within 1 count colour) _ f in
     omega (arith, count-most count (a .0), within-high 1 count colour (b .0))
+
+-- fresh: its lengths, then the number of tiles
+module _ (pieces weights counts : List ℕ) (rows cols tiles : ℕ) (n : ℕ) (e : n ≡ refusal (lengthsChecks pieces weights counts rows cols)) where
+  pub fresh-lengths : (n ≡ 0 → ⊥) → n ≡ refusal (freshChecks rows cols tiles (board pieces weights counts))
+  unfolding _then_
+  fresh-lengths h = stopped n (lengthsChecks pieces weights counts rows cols) (LENGTH unless tileNumber tiles or accepted) e h
+
+  fresh-on : n ≡ 0 → (m : ℕ) → m ≡ refusal (LENGTH unless tileNumber tiles or accepted) → m ≡ refusal (freshChecks rows cols tiles (board pieces weights counts))
+  unfolding _then_ numbered
+  fresh-on z m q = went-on (lengthsChecks pieces weights counts rows cols) (LENGTH unless tileNumber tiles or accepted) refl e z q
+
+  pub fresh-number : n ≡ 0 → tileNumber tiles ≡ false → LENGTH ≡ refusal (freshChecks rows cols tiles (board pieces weights counts))
+  fresh-number z f = fresh-on z LENGTH (refuse-by (tileNumber tiles) accepted f)
+
+  pub fresh-all : n ≡ 0 → tileNumber tiles ≡ true → 0 ≡ refusal (freshChecks rows cols tiles (board pieces weights counts))
+  fresh-all z f = fresh-on z 0 (pass-by LENGTH (tileNumber tiles) accepted f no-check)
+
+  -- filled planes of these lengths are the fresh board
+  pub filled : n ≡ 0 → (p w q : List ℕ) → p ≡ tab (length pieces) (λ k. 1) → w ≡ tab (length weights) (λ k. 1) → q ≡ tab (length counts) (λ k. tiles)
+      → board p w q ≡ freshBoard (rows * cols) tiles
+  unfolding freshBoard
+  filled z p w q a b d =
+      let s = passed 0 (boardSides rows cols) _ (sym e ∙ z) in
+      let lp = passed 1 (hasLength pieces (rows * cols)) _ (s .1) in
+      let lw = passed 1 (hasLength weights (rows * cols)) _ (lp .1) in
+      let lc = passed 1 (hasLength counts (rows * cols)) accepted (lw .1) in
+      rw (a, b, d, long pieces (rows * cols) (lp .0), long weights (rows * cols) (lw .0), long counts (rows * cols) (lc .0))

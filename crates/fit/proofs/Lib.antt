@@ -1,3 +1,4 @@
+pub mod Words
 pub mod Windows
 pub mod Accepted
 pub mod Lists

@@ -1,6 +1,7 @@
 -- Which colours are left, as the loops find them.
 --     bits-split    a set is what it has of another and what it has not
 --     common-le, without-is    a colour taken out of a set
+--     past-misfit, past-fitting    one tile tried
 --     missing-turn, missing-end, missing-none    a walk of the tiles until no colour is missing
 --     skip-left, kept-left    a window that is skipped, and one that is kept
 --     left-turn, left-none    the nine windows; once no colour is left, none is listed
@@ -11,7 +12,7 @@ use mathlib.Core.Bool.{Bool, true, false, not, _&&_, _||_}
 use mathlib.Core.List.{List}
 use native.Mathlib.Nat.{zero-div, lt-of-lt-of-le}
 use native.Mathlib.Omega.{arith}
-use borrow.Author.Tests.{le-leb, lt-leb, ltb-true, ne-eqb}
+use borrow.Author.Tests.{le-leb, lt-leb, ltb-true}
 use lib.Dec.{leb, ltb, eqb}
 use lib.ListN.{getD}
 use lib.Pow.{pow-mono}
@@ -65,14 +66,19 @@ without-is n x t one both few l e h =
     of-one u a b =
         ap (λ (y : ℕ). has y u) e ∙ bits-has maxColours (λ v. has 0 v || eqb v t) u a (omega arith) ∙ ap (λ (h : Bool). h || eqb u t) (no-colour u)
 
--- the colour that a tile offers is none, or the one that it has where it fits
-offer : (b : Bool) (t x : ℕ) → 1 ≤ t → eqb t (pick b x 0) ≡ (b && eqb t x)
-offer true t x l = refl
-offer false t x l = ne-eqb t 0 (λ e. omega arith)
+and-true : (b : Bool) {c : Bool} → c ≡ true → b ≡ (b && c)
+and-true true e = sym e
+and-true false e = refl
 
-pub offer-le : {r : ℕ} (b : Bool) (x m : ℕ) → r ≡ pick b x 0 → x ≤ m → r ≤ m
-offer-le true x m e l = omega arith
-offer-le false x m e l = omega arith
+-- one tile: it serves no colour where it does not fit, else the one that it has at place q
+module _ (tiles : List ℕ) (shown : ℕ → ℕ) (q n missing m : ℕ) (fit : missing < 2 ^ m) where
+  pub past-misfit : fitsTile tiles shown n ≡ false → missing ≡ bitsOf m (λ t. has missing t && not (serves tiles shown q t n))
+  past-misfit e =
+      sym (bits-back m missing fit) ∙ bits-ext m (has missing) _ (λ t a b. and-true (has missing t) (rw e))
+
+  pub past-fitting : fitsTile tiles shown n ≡ true
+      → bitsOf m (λ t. has missing t && not (eqb t (getD tiles (n * 9 + q) 0))) ≡ bitsOf m (λ t. has missing t && not (serves tiles shown q t n))
+  past-fitting e = bits-ext m _ _ (λ t a b. sym (ap (λ (f : Bool). has missing t && not (f && eqb t (getD tiles (n * 9 + q) 0))) e))
 
 less : (a b c : Bool) → ((a && not b) && not c) ≡ (a && not (b || c))
 less true true c = refl
@@ -86,17 +92,13 @@ missingAfter tiles shown q left m n = bitsOf m (λ t. has left t && not (some n 
 module _ (tiles : List ℕ) (shown : ℕ → ℕ) (q left m : ℕ) (fit : left < 2 ^ m) where
   pub missing-first : left ≡ missingAfter tiles shown q left m 0
   unfolding some
-  missing-first = sym (bits-back m left fit) ∙ bits-ext m (has left) _ (λ t a b. all (has left t))
-    where
-      all : (b : Bool) → b ≡ (b && true)
-      all true = refl
-      all false = refl
+  missing-first = sym (bits-back m left fit) ∙ bits-ext m (has left) _ (λ t a b. and-true (has left t) refl)
 
   pub missing-turn : (n x : ℕ) → x ≡ missingAfter tiles shown q left m n
-      → bitsOf m (λ u. has x u && not (eqb u (pick (fitsTile tiles shown n) (getD tiles (n * 9 + q) 0) 0))) ≡ missingAfter tiles shown q left m (n + 1)
+      → bitsOf m (λ t. has x t && not (serves tiles shown q t n)) ≡ missingAfter tiles shown q left m (n + 1)
   missing-turn n x e =
       bits-ext m _ _ (λ t a b.
-      ap₂ (λ (h o : Bool). h && not o) (ap (λ (y : ℕ). has y t) e ∙ bits-has m _ t a b) (offer (fitsTile tiles shown n) t (getD tiles (n * 9 + q) 0) a)
+      ap (λ (h : Bool). h && not (serves tiles shown q t n)) (ap (λ (y : ℕ). has y t) e ∙ bits-has m _ t a b)
       ∙ less (has left t) (some n (serves tiles shown q t)) (serves tiles shown q t n)
       ∙ ap (λ (s : Bool). has left t && not s) (sym (some-more (serves tiles shown q t) n)))
 
@@ -141,11 +143,7 @@ module _ (rows cols row col q : ℕ) (across : col < cols) where
     skip-left : flat rows cols .kept (row * cols + col) q ≡ false
         → left ≡ bitsOf m (λ t. has left t && allows (flat rows cols) tiles pieces (row * cols + col) t q)
     unfolding allows
-    skip-left e = sym (bits-back m left fit) ∙ bits-ext m (has left) _ (λ t a b. stays (has left t) _ e)
-      where
-        stays : (b c : Bool) {k : Bool} → k ≡ false → b ≡ (b && (not k || c))
-        stays true c e = rw e
-        stays false c e = refl
+    skip-left e = sym (bits-back m left fit) ∙ bits-ext m (has left) _ (λ t a b. and-true (has left t) (rw e))
 
     pub above-left : row < q / 3 → left ≡ bitsOf m (λ t. has left t && allows (flat rows cols) tiles pieces (row * cols + col) t q)
     above-left h = skip-left (kept-is ∙ and-no-left (leb (q / 3) row) (leb (q % 3) col) (lt-leb (q / 3) row h))

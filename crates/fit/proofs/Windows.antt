@@ -2,25 +2,30 @@
 --     on-grid, off-rows, off-cols    the number of a cell, on the grid and past its edge
 --     bare-past     past the edge it is bare
 --     pattern-is    place i of a window is the cell i / 3 down and i % 3 right of its start
+--     read-masked   what is read of a window serves the fit test
+--     bare-fits     every tile fits a bare window
 --     fits-ext, count-ext, has-ext   windows that show the same fit the same tiles
 -- Assumes nothing.
 use Prim.Native.Nat.{ℕ, _+_, _-_, _*_, _/_, _%_, _<_, _≤_}
 use mathlib.Core.Path.{_≡_, sym, _∙_, ap}
-use mathlib.Core.Bool.{Bool, _&&_}
+use mathlib.Core.Bool.{Bool, true, _&&_}
 use mathlib.Core.List.{List}
+use mathlib.Core.Logic.{⊎-elim}
 use native.Mathlib.Omega.{arith}
 use borrow.Author.Tests.{lt-ltb, le-ltb}
 use lib.Dec.{ltb, eqb}
 use lib.ListN.{length, getD, List·getD-eq-default}
-use Rattle.base.specs.Counting.{pick, tally}
+use Rattle.base.specs.Counting.{pick, every, tally}
 use Rattle.base.specs.Tables.{tab}
-use Rattle.base.proofs.Bools.{and-both, and-no-left, and-no-right, pick-yes, pick-no}
-use Rattle.base.proofs.Numbers.{row-of, col-of}
-use Rattle.base.proofs.Counted.{every-ext, some-ext, tally-ext, tally-more}
+use Rattle.base.proofs.Bools.{or-left, and-both, and-no-left, and-no-right, pick-yes, pick-no}
+use Rattle.base.proofs.Numbers.{row-of, col-of, lt-or-le}
+use Rattle.base.proofs.Counted.{every-at, every-is, every-ext, some-ext, tally-all, tally-ext, tally-more}
 use Rattle.base.proofs.Tabled.{getD-tab}
 use Rattle.rules.specs.Tests.{tilesIn}
 use Rattle.rules.specs.Grid.{flat, cellNumber, colourOn}
 use Rattle.rules.specs.Fit.{pattern, agrees, agreesAt, fitsTile, fitCount, serves, hasFitting}
+use Rattle.fit.specs.Ready.{Readable}
+use Rattle.fit.specs.Words.{maskOf, Masked}
 
 module _ (rows cols r c : ℕ) where
   pub on-grid : r < rows → c < cols → cellNumber rows cols r c ≡ r * cols + c
@@ -69,3 +74,18 @@ tally-turn {n} f p q e = rw (p, e, q) (sym (tally-more f n))
 
 pub tally-done : {n i r : ℕ} (f : ℕ → Bool) → i ≤ n → n ≤ i → r ≡ tally i f → r ≡ tally n f
 tally-done {n} {i} f a b h = let e : i ≡ n = omega arith in h ∙ ap (λ (m : ℕ). tally m f) e
+
+-- nine colours with their masks, as they were read
+pub read-masked : (pieces : List ℕ) (rows cols : ℕ) (board : Readable pieces rows cols) (g : ℕ → ℕ) (window mask : List ℕ) → window ≡ tab 9 (λ i. colourOn pieces (g i))
+    → mask ≡ tab 9 (λ i. maskOf (getD window i 0)) → Masked window mask
+read-masked pieces rows cols board g window mask e m =
+    record { cells = record { low = λ i l. rw (read-is window _ e i l) (low (g i)) }; masks = read-is mask _ m }
+  where
+    low : (k : ℕ) → colourOn pieces k < 256
+    low k = ⊎-elim (λ l. omega (arith, board .most k l)) (λ l. omega (arith, List·getD-eq-default pieces 0 l)) (lt-or-le k (length pieces))
+
+-- a bare window is one that every tile fits
+pub bare-fits : (tiles : List ℕ) (shown : ℕ → ℕ) → every 9 (λ i. eqb (shown i) 0) ≡ true → tilesIn tiles ≡ fitCount tiles shown
+unfolding fitCount fitsTile agrees
+bare-fits tiles shown e =
+    sym (tally-all (fitsTile tiles shown) (tilesIn tiles) (λ n l. every-is (agreesAt tiles shown n) 9 (λ i m. or-left (eqb (shown i) 0) _ (every-at (λ i. eqb (shown i) 0) 9 e i m))))

@@ -1,19 +1,20 @@
 // Document 01, "Fit": how many tiles fit a region, and which colours fit a cell. The text's algorithm/feasibility.rs and the
 // listing of algorithm/selection.rs, by the direct fit test.
 ghost use mathlib.Core.Path.{_≡_};
-ghost use mathlib.Core.Bool.{true, false, not, _&&_};
+ghost use mathlib.Core.Bool.{false, not, _&&_};
 ghost use Prim.Native.Nat.{ℕ, _+_, _*_, _^_, _<_, _≤_};
 ghost use lib.Dec.{eqb, ltb};
 ghost use lib.ListN.{length, getD};
-ghost use Rattle.base.specs.Counting.{pick};
+ghost use Rattle.base.specs.Counting.{pick, every};
 ghost use Rattle.base.specs.Tables.{tab};
 ghost use Rattle.base.specs.Refusal.{refusal, accepted};
 ghost use Rattle.rules.specs.Grid.{flat, cellNumber, colourOn};
 ghost use Rattle.rules.specs.Bounds.{maxColours, maxTiles};
 ghost use Rattle.rules.specs.Sets.{has, bitsOf, setOf};
-ghost use Rattle.rules.specs.Fit.{pattern, agrees, fitsTile, fitCount, hasFitting, allows, windowOrder, lists, piecesChecks, listing, regionCount};
+ghost use Rattle.rules.specs.Fit.{pattern, fitsTile, fitCount, serves, hasFitting, allows, windowOrder, lists, piecesChecks, listing, regionCount};
 ghost use Rattle.rules.specs.Scores.{fraction, fractionChecks, fractionAt};
 ghost use Rattle.rules.specs.declared.Listing.the-variants.{Colours};
+ghost use Rattle.fit.specs.Words.{word, maskOf, Cells, Masked};
 ghost use Rattle.fit.specs.Ready.{Readable, Countable, Ready, OnGrid, Coloured};
 use rules::Cell;
 use rules::FractionAnswer;
@@ -81,26 +82,63 @@ fn window_at(pieces: &[u32], rows: usize, cols: usize, row: usize, col: usize) -
     window
 }
 
-fn agree(colour: u8, cell: u8) -> bool
-    ensures { λ r. ⌜ r ≡ agrees colour cell ⌝ }
+// Two, four and eight cells read as one number, the first the lowest: the compiler makes one load of the eight.
+fn pair(cells: &[u8], at: usize) -> u64
+    requires { ⌜ at + 2 ≤ length (now cells) ⌝ }
+    ensures { λ r. ⌜ r ≡ word 2 (λ i. getD (now (cells .entry)) (at + i) 0) ⌝ }
 {
-    if colour == 0 { true } else { colour == cell }
+    let low = cells[at] as u64;
+    let high = cells[at + 1] as u64;
+    high * 0x100 + low
 }
 
-// Tile n fits the window; left at its first cell that disagrees.
-fn tile_fits(tiles: &[u8], n: usize, window: &[u8; 9]) -> bool
+fn four(cells: &[u8], at: usize) -> u64
+    requires { ⌜ at + 4 ≤ length (now cells) ⌝ }
+    ensures { λ r. ⌜ r ≡ word 4 (λ i. getD (now (cells .entry)) (at + i) 0) ⌝ }
+{
+    let low = pair(cells, at);
+    let high = pair(cells, at + 2);
+    high * 0x1_0000 + low
+}
+
+fn eight(cells: &[u8], at: usize) -> u64
+    requires { ⌜ at + 8 ≤ length (now cells) ⌝ }
+    ensures { λ r. ⌜ r ≡ word 8 (λ i. getD (now (cells .entry)) (at + i) 0) ⌝ }
+{
+    let low = four(cells, at);
+    let high = four(cells, at + 4);
+    high * 0x1_0000_0000 + low
+}
+
+// What a window's colour leaves of a tile's cell: all of it, or nothing where the window is bare.
+fn mask_for(colour: u8) -> u8
+    ensures { λ r. ⌜ r ≡ maskOf colour ⌝ }
+{
+    if colour == 0 { 0 } else { 255 }
+}
+
+fn masks_for(window: &[u8; 9]) -> [u8; 9]
+    ensures { λ r. ⌜ r ≡ tab 9 (λ i. maskOf (getD (now (window .entry)) i 0)) ⌝ }
+{
+    let mut masks = [0u8; 9];
+    let mut i = 0;
+    while i < 9 {
+        masks[i] = mask_for(window[i]);
+        i += 1;
+    }
+    masks
+}
+
+// Tile n fits the window: its cells, where the window is laid, are the window's. All nine are compared at once, with no branch.
+fn tile_fits(tiles: &[u8], n: usize, window: &[u8; 9], mask: &[u8; 9]) -> bool
     requires { ⌜ n * 9 + 9 ≤ length (now tiles) ⌝ }
+    requires { ⌜ Masked (now window) (now mask) ⌝ }
     ensures { λ r. ⌜ r ≡ fitsTile (now (tiles .entry)) (λ i. getD (now (window .entry)) i 0) n ⌝ }
 {
     let at = n * 9;
-    let mut i = 0;
-    while i < 9 {
-        if !agree(window[i], tiles[at + i]) {
-            return false;
-        }
-        i += 1;
-    }
-    true
+    let first = (eight(tiles, at) & eight(mask, 0)) == eight(window, 0);
+    let last = (tiles[at + 8] & mask[8]) == window[8];
+    first & last
 }
 
 fn one_if(test: bool) -> u32
@@ -109,15 +147,30 @@ fn one_if(test: bool) -> u32
     test as u32
 }
 
-fn fit_count(tiles: &[u8], window: &[u8; 9]) -> u32
+// No piece lies in the window.
+fn is_bare(window: &[u8; 9]) -> bool
+    requires { ⌜ Cells (now window) ⌝ }
+    ensures { λ r. ⌜ r ≡ every 9 (λ i. eqb (getD (now (window .entry)) i 0) 0) ⌝ }
+{
+    let first = eight(window, 0) == 0;
+    let last = window[8] == 0;
+    first & last
+}
+
+// How many tiles fit the window: all of them where it is bare.
+fn fit_count(tiles: &[u8], window: &[u8; 9], mask: &[u8; 9]) -> u32
     requires { ⌜ length (now tiles) ≤ 64800 ⌝ }
+    requires { ⌜ Masked (now window) (now mask) ⌝ }
     ensures { λ r. ⌜ r ≡ fitCount (now (tiles .entry)) (λ i. getD (now (window .entry)) i 0) ⌝ }
 {
     let last = tiles.len() / rules::TILE_CELLS;
+    if is_bare(window) {
+        return last as u32;
+    }
     let mut count = 0;
     let mut n = 0;
     while n < last {
-        count += one_if(tile_fits(tiles, n, window));
+        count += one_if(tile_fits(tiles, n, window, mask));
         n += 1;
     }
     count
@@ -137,19 +190,8 @@ pub fn fit_count_at(
     ensures { λ r. ⌜ r ≡ fitCount (now (tiles .entry)) (pattern (flat rows cols) (now (pieces .entry)) (row * cols + col)) ⌝ }
 {
     let window = window_at(pieces, rows, cols, row, col);
-    fit_count(tiles, &window)
-}
-
-// What tile n offers at place q: its colour there where it fits the window, else 0, which is no colour.
-fn offered(tiles: &[u8], n: usize, window: &[u8; 9], q: usize) -> u32
-    requires { ⌜ n * 9 + 9 ≤ length (now tiles) ⌝ }
-    requires { ⌜ q < 9 ⌝ }
-    ensures { λ r. ⌜ r ≡ pick (fitsTile (now (tiles .entry)) (λ i. getD (now (window .entry)) i 0) n) (getD (now (tiles .entry)) (n * 9 + q) 0) 0 ⌝ }
-{
-    if !tile_fits(tiles, n, window) {
-        return 0;
-    }
-    tiles[n * 9 + q] as u32
+    let mask = masks_for(&window);
+    fit_count(tiles, &window, &mask)
 }
 
 // The set without colour t.
@@ -161,10 +203,32 @@ fn without_colour(bits: u32, t: u32) -> u32
     bits - there
 }
 
+// What is missing still once tile n was tried: a tile that fits the window serves the colour that it has at place q.
+fn missing_past(
+    missing: u32,
+    tiles: &[u8],
+    n: usize,
+    window: &[u8; 9],
+    mask: &[u8; 9],
+    q: usize,
+) -> u32
+    requires { ⌜ n * 9 + 9 ≤ length (now tiles) ⌝ }
+    requires { ⌜ Coloured (now tiles) ⌝ }
+    requires { ⌜ Masked (now window) (now mask) ⌝ }
+    requires { ⌜ q < 9 ⌝ }
+    ensures { λ r. ⌜ ((m : ℕ) → m ≤ maxColours → missing < 2 ^ m → r ≡ bitsOf m (λ t. has missing t && not (serves (now (tiles .entry)) (λ i. getD (now (window .entry)) i 0) q t n))) ⌝ }
+{
+    if !tile_fits(tiles, n, window, mask) {
+        return missing;
+    }
+    without_colour(missing, tiles[n * 9 + q] as u32)
+}
+
 // Those of the colours left that a fitting tile has at place q. The tiles are walked until no colour is missing.
-fn window_colours(left: u32, tiles: &[u8], window: &[u8; 9], q: usize) -> u32
+fn window_colours(left: u32, tiles: &[u8], window: &[u8; 9], mask: &[u8; 9], q: usize) -> u32
     requires { ⌜ left < 2 ^ maxColours ⌝ }
     requires { ⌜ Coloured (now tiles) ⌝ }
+    requires { ⌜ Masked (now window) (now mask) ⌝ }
     requires { ⌜ q < 9 ⌝ }
     ensures { λ r. ⌜ ((n : ℕ) → n ≤ maxColours → left < 2 ^ n → r ≡ bitsOf n (λ t. has left t && hasFitting (now (tiles .entry)) (λ i. getD (now (window .entry)) i 0) q t)) ⌝ }
 {
@@ -175,7 +239,7 @@ fn window_colours(left: u32, tiles: &[u8], window: &[u8; 9], q: usize) -> u32
         if missing == 0 {
             return left;
         }
-        missing = without_colour(missing, offered(tiles, n, window, q));
+        missing = missing_past(missing, tiles, n, window, mask, q);
         n += 1;
     }
     left - missing
@@ -206,7 +270,8 @@ fn narrowed(
         return left;
     }
     let window = window_at(pieces, rows, cols, row - q / 3, col - q % 3);
-    window_colours(left, tiles, &window, q)
+    let mask = masks_for(&window);
+    window_colours(left, tiles, &window, &mask, q)
 }
 
 fn window_place(i: usize) -> usize

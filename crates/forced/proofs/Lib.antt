@@ -1,4 +1,5 @@
-pub mod Beside
+pub mod Listed
+pub mod Alone
 pub mod Entries
 pub mod Round
 pub mod Accepted

@@ -20,7 +20,7 @@ use Rattle.rules.specs.declared.GenerationBounds.{GenerationBounds}
 use Rattle.rules.specs.declared.ForcedPosition.{ForcedPosition}
 use Rattle.rules.specs.declared.ForcedPositions.{ForcedPositions}
 use Rattle.forced.specs.Round.{roundOrder, forcedColour, withForced}
-use Rattle.forced.proofs.Beside.{beside}
+use Rattle.forced.proofs.Alone.{beside}
 use Rattle.forced.proofs.Entries.{length-found}
 
 order-test : every 8 (λ i. ltb (getD roundOrder i 0) 9) ≡ true

@@ -4,10 +4,12 @@ ghost use mathlib.Core.Path.{_≡_};
 ghost use mathlib.Core.Bool.{true};
 ghost use mathlib.Core.List.{List, []};
 ghost use Prim.Native.Nat.{_+_, _*_, _<_};
+ghost use lib.IntN.{pos, _+ℤ_, _-ℤ_};
 ghost use lib.ListN.{getD};
 ghost use Rattle.base.specs.Counting.{pick};
+ghost use Rattle.base.specs.Whole.{withinZ};
 ghost use Rattle.base.specs.Refusal.{refusal};
-ghost use Rattle.rules.specs.Bounds.{addedRoom};
+ghost use Rattle.rules.specs.Bounds.{addedRoom, minCoordinate, maxCoordinate};
 ghost use Rattle.rules.specs.Tests.{onWall};
 ghost use Rattle.rules.specs.Grid.{flat, laidOn};
 ghost use Rattle.rules.specs.Fit.{piecesChecks};
@@ -34,15 +36,22 @@ fn round_place(i: usize) -> usize
     ROUND_ORDER[i]
 }
 
+// The coordinate one back from this one and so many steps on.
+fn beside(coordinate: i32, step: usize) -> i32
+    requires { ⌜ withinZ minCoordinate maxCoordinate coordinate ≡ true ⌝ }
+    requires { ⌜ step < 3 ⌝ }
+    ensures { λ r. ⌜ r ≡ (coordinate +ℤ pos step) -ℤ pos 1 ⌝ }
+{
+    coordinate + step as i32 - 1
+}
+
 // The place d of the 3x3 round w. It may lie off the wall, where no cell has its index.
 fn neighbour_at(w: World, d: usize) -> World
     requires { ⌜ onWall w ≡ true ⌝ }
     requires { ⌜ d < 9 ⌝ }
     ensures { λ r. ⌜ r ≡ neighbour w d ⌝ }
 {
-    let down = (d / 3) as i32;
-    let across = (d % 3) as i32;
-    World(w.0 + down - 1, w.1 + across - 1)
+    World(beside(w.0, d / 3), beside(w.1, d % 3))
 }
 
 // Not outside the box, if one is given.

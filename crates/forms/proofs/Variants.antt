@@ -100,6 +100,9 @@ module _ (sample : List ℕ) (rows cols : ℕ) (rotations reflections : Bool) wh
   unfolding variant windowTile
   variant-length v = form-length _ _ (length-tab 9 _)
 
+  pub variant-nine : (v : ℕ) (tile : List ℕ) → tile ≡ variant sample rows cols rotations reflections v → length tile ≡ 9
+  variant-nine v tile e = ap length e ∙ variant-length v
+
 -- at most 7,200
 pub windows-le : {a b : ℕ} → a ≤ 30 → b ≤ 30 → a * b ≤ 900
 windows-le p q = mul-le p q

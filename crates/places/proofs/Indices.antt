@@ -5,19 +5,19 @@ use Prim.Native.Nat.{ℕ, zero, suc, _+_, _-_, _*_, _<_, _≤_}
 use mathlib.Core.Path.{_≡_, refl, sym, ap, _∙_}
 use mathlib.Core.Bool.{Bool, true, false, cond}
 use native.Mathlib.Omega.{arith}
-use lib.Dec.{T, leb, ltb}
+use lib.Dec.{T, leb, ltb, lit<}
 use lib.IntN.{ℤ, pos, negsuc, natAbs, subℕ, _+ℤ_, _-ℤ_}
-use lib.Signed.{ltZ, nonNeg}
-use borrow.Author.Tests.{le-leb, le-ltb, ltb-true, ltb-false}
-use Rattle.base.specs.Whole.{clip, indexBelow}
+use lib.Signed.{ltZ, mag, nonNeg}
+use borrow.Author.Tests.{leb-true, le-leb, le-ltb, ltb-true}
+use Rattle.base.specs.Whole.{clip, withinZ, indexBelow}
 use Rattle.base.specs.Refusal.{Checks, accepted, _unless_or_, refusal}
 use Rattle.base.proofs.Bools.{and-left, and-right, never}
 use Rattle.base.proofs.Numbers.{cell-lt}
 use Rattle.base.proofs.Chain.{passed}
-use Rattle.base.proofs.Signs.{index-clip, index-pos}
-use Rattle.rules.specs.Bounds.{maxRadius, PLACE}
+use Rattle.base.proofs.Signs.{index-clip, index-pos, ranged}
+use Rattle.rules.specs.Bounds.{minCoordinate, maxCoordinate, minOffset, maxOffset, maxRadius, PLACE}
 use Rattle.rules.specs.Tests.{onWall, offsetFits, onBoard}
-use Rattle.rules.specs.Places.{cellOf, spanOf, regionSpans}
+use Rattle.rules.specs.Places.{cellOf, spanOf, spanChecks, regionSpans}
 use Rattle.rules.specs.Grid.{numberOf}
 use Rattle.rules.specs.Fit.{placeChecks}
 use Rattle.rules.specs.declared.World.{World}
@@ -49,6 +49,35 @@ pub span-round : (x k : ℕ) → spanOf (pos x) k ≡ spanRound x k
 unfolding spanOf
 span-round x zero = let e : x + 0 ≡ x - 0 = omega arith in ap (λ (n : ℕ). record { 0 = n; 1 = x + 0 + 1 }) e
 span-round x (suc k) = ap (λ (n : ℕ). record { 0 = n; 1 = x + suc k + 1 }) (clip-sub x (suc k))
+
+-- the numbers of a coordinate that is on the wall, and of an offset that fits, are small
+pub wall-low : (w : World) → onWall w ≡ true → (mag (w .0) < 1000001) × (mag (w .1) < 1000001)
+unfolding onWall
+wall-low w e =
+    let f = withinZ minCoordinate maxCoordinate in (
+      ranged 999999 1000000 (w .0) (and-left (f (w .0)) (f (w .1)) e) (lit< tt) (lit< tt),
+      ranged 999999 1000000 (w .1) (and-right (f (w .0)) (f (w .1)) e) (lit< tt) (lit< tt),
+    )
+
+pub offset-low : (o : Offset) → offsetFits o ≡ true → (mag (o .0) < 1000001) × (mag (o .1) < 1000001)
+unfolding offsetFits
+offset-low o e =
+    let f = withinZ minOffset maxOffset in (
+      ranged 999936 1000000 (o .0) (and-left (f (o .0)) (f (o .1)) e) (lit< tt) (lit< tt),
+      ranged 999936 1000000 (o .1) (and-right (f (o .0)) (f (o .1)) e) (lit< tt) (lit< tt),
+    )
+
+-- what a radius round a place gives that was not refused
+pub record Region (o : Offset) (w : World) (k : ℕ) : Type 0 where
+  pub near : k ≤ maxRadius
+  pub walled : onWall w ≡ true
+  pub fitting : offsetFits o ≡ true
+
+pub region : (o : Offset) (w : World) (k : ℕ) → refusal (spanChecks o w k) ≡ 0 → Region o w k
+region o w k e =
+    let p = passed 0 (leb k maxRadius) (PLACE unless onWall w or PLACE unless offsetFits o or accepted) e in
+    let q = passed 5 (onWall w) (PLACE unless offsetFits o or accepted) (p .1) in
+    record { near = leb-true k maxRadius (p .0); walled = q .0; fitting = passed 5 (offsetFits o) accepted (q .1) .0 }
 
 -- what a place that was not refused gives
 pub record Placed (rows cols : ℕ) (w : World) (o : Offset) : Type 0 where

@@ -1,3 +1,4 @@
 pub mod Wide
 pub mod Indices
+pub mod Boxes
 pub mod Coincide

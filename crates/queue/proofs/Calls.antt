@@ -2,16 +2,16 @@
 -- functions beneath.
 -- Assumes nothing.
 use Prim.Native.Nat.{ℕ, zero, suc, _≤_}
-use mathlib.Core.Path.{_≡_, refl, sym, _∙_, ap}
+use mathlib.Core.Path.{_≡_, refl, sym, _∙_}
 use mathlib.Core.Bool.{true}
-use mathlib.Core.List.{List, [], _∷_}
+use mathlib.Core.List.{List}
+use native.Mathlib.Omega.{arith}
 use lib.Dec.{eqb}
-use lib.ListN.{drop}
 use borrow.Author.Tests.{leb-true}
 use Rattle.base.specs.Refusal.{refusal}
-use Rattle.base.proofs.Chain.{passed, _then_, stopped, then-go, numbered}
+use Rattle.base.proofs.Chain.{passed, _then_, stopped, then-go, numbered, Fails, more, none, lowest}
 use Rattle.rules.specs.Bounds.{queueRoom, addedRoom}
-use Rattle.rules.specs.Forced.{queued, offered, queueOf, withPositions, queueChecks, addChecks, takenFrom, grownBy, queueEmpty, queueLength}
+use Rattle.rules.specs.Forced.{queued, offered, withPositions, queueChecks, addChecks, takenFrom, grownBy, queueEmpty, queueLength}
 use Rattle.rules.specs.declared.ForcedPosition.{ForcedPosition}
 use Rattle.rules.specs.declared.ForcedPositions.{ForcedPositions}
 use Rattle.rules.specs.declared.ForcedPipeline.{ForcedPipeline}
@@ -28,7 +28,8 @@ module _ (q : ForcedPipeline) where
   pub in-room-of : {n : ℕ} → n ≡ refusal (queueChecks q) → n ≡ 0 → q .len ≤ queueRoom
   in-room-of e z = leb-true (q .len) queueRoom (passed 0 _ _ (sym e ∙ z) .0)
 
-  pub taken-refused : (n : ℕ) → n ≡ refusal (queueChecks q) → (n ≡ 0 → ⊥) → _≡_ {A = Taken} (record { next = Next·.Refused n; queue = q }) (takenFrom q)
+  pub taken-refused : (n : ℕ) → n ≡ refusal (queueChecks q) → (n ≡ 0 → ⊥)
+      → _≡_ {A = Taken} (record { next = Next·.Refused n; queue = q }) (takenFrom q)
   unfolding takenFrom
   taken-refused zero e h = absurd (h refl)
   taken-refused (suc n) e h = rw (sym e)
@@ -73,7 +74,8 @@ module _ (q : ForcedPipeline) (p : ForcedPositions) where
       let a = passed 0 _ _ (sym e ∙ z) in
       record { in-room = leb-true (q .len) queueRoom (a .0); few = leb-true (p .len) addedRoom (passed 0 _ _ (a .1) .0) }
 
-  pub grown-refused : (n : ℕ) → n ≡ refusal (entryChecks q p) → (n ≡ 0 → ⊥) → _≡_ {A = Grown} (record { answer = Written·.Refused n; queue = q }) (grownBy q p)
+  pub grown-refused : (n : ℕ) → n ≡ refusal (entryChecks q p) → (n ≡ 0 → ⊥)
+      → _≡_ {A = Grown} (record { answer = Written·.Refused n; queue = q }) (grownBy q p)
   unfolding grownBy
   grown-refused zero e h = absurd (h refl)
   grown-refused (suc n) e h = rw (in-two, sym (stopped (suc n) (entryChecks q p) (roomChecks all) e h))
@@ -81,3 +83,11 @@ module _ (q : ForcedPipeline) (p : ForcedPositions) where
   pub grown : {n : ℕ} → n ≡ refusal (entryChecks q p) → n ≡ 0 → grownTo q all ≡ grownBy q p
   unfolding grownBy grownTo
   grown e z = rw (in-two, then-go (entryChecks q p) (roomChecks all) numbers (sym e ∙ z))
+
+-- the numbers ascend, so where several checks fail the lowest is answered
+pub queue-lowest : (q : ForcedPipeline) {m : ℕ} → Fails m (queueChecks q) → refusal (queueChecks q) ≤ m
+queue-lowest q f = lowest {lo = 1} (queueChecks q) (more (omega arith) (more (omega arith) none)) f .0
+
+pub add-lowest : (q : ForcedPipeline) (p : ForcedPositions) {m : ℕ} → Fails m (addChecks q p) → refusal (addChecks q p) ≤ m
+add-lowest q p f =
+    lowest {lo = 1} (addChecks q p) (more (omega arith) (more (omega arith) (more (omega arith) (more (omega arith) (more (omega arith) none))))) f .0

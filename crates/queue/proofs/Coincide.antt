@@ -19,7 +19,8 @@ use Rattle.queue.specs.Unchecked.{grownTo, nextOut}
 pub new : {r s : ForcedPipeline} → r ≡ queueOf [] → s ≡ queueOf [] → r ≡ s
 new p q = coincide p q
 
-pub add-positions : (queue : ForcedPipeline) (positions : ForcedPositions) {r s : Grown} → r ≡ grownBy queue positions → s ≡ grownBy queue positions → r ≡ s
+pub add-positions : (queue : ForcedPipeline) (positions : ForcedPositions) {r s : Grown} → r ≡ grownBy queue positions
+    → s ≡ grownBy queue positions → r ≡ s
 add-positions queue positions p q = coincide p q
 
 pub take-next : (queue : ForcedPipeline) {r s : Taken} → r ≡ takenFrom queue → s ≡ takenFrom queue → r ≡ s
@@ -31,16 +32,20 @@ is-empty queue p q = coincide p q
 pub len : (queue : ForcedPipeline) {r s : Number} → r ≡ queueLength queue → s ≡ queueLength queue → r ≡ s
 len queue p q = coincide p q
 
-pub take-next-from : (entry : ForcedPipeline) {r s : Next} {m n : ForcedPipeline} → Gives (takenFrom entry .next) (takenFrom entry .queue) r m → Gives (takenFrom entry .next) (takenFrom entry .queue) s n → (r ≡ s) × (m ≡ n)
+pub take-next-from : (entry : ForcedPipeline) {r s : Next} {m n : ForcedPipeline}
+    → Gives (takenFrom entry .next) (takenFrom entry .queue) r m → Gives (takenFrom entry .next) (takenFrom entry .queue) s n
+    → (r ≡ s) × (m ≡ n)
 take-next-from entry p q = gives-coincide p q
 
 pub add-positions-to : (entry : ForcedPipeline) (positions : ForcedPositions) {r s : Written} {m n : ForcedPipeline}
-    → Gives (grownBy entry positions .answer) (grownBy entry positions .queue) r m → Gives (grownBy entry positions .answer) (grownBy entry positions .queue) s n → (r ≡ s) × (m ≡ n)
+    → Gives (grownBy entry positions .answer) (grownBy entry positions .queue) r m
+    → Gives (grownBy entry positions .answer) (grownBy entry positions .queue) s n → (r ≡ s) × (m ≡ n)
 add-positions-to entry positions p q = gives-coincide p q
 
 -- beneath the checks
 pub unchecked-add-positions : (queue : ForcedPipeline) (positions : ForcedPositions) {r s : Grown}
-    → r ≡ grownTo queue (withPositions (queued queue) (offered positions)) → s ≡ grownTo queue (withPositions (queued queue) (offered positions)) → r ≡ s
+    → r ≡ grownTo queue (withPositions (queued queue) (offered positions))
+    → s ≡ grownTo queue (withPositions (queued queue) (offered positions)) → r ≡ s
 unchecked-add-positions queue positions p q = coincide p q
 
 pub unchecked-take-next : (queue : ForcedPipeline) {r s : Taken} → r ≡ nextOut (queued queue) → s ≡ nextOut (queued queue) → r ≡ s

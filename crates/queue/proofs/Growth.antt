@@ -2,17 +2,16 @@
 -- still to be added to the queue so far gives what all the positions give.
 -- Assumes nothing.
 use Prim.Native.Nat.{ℕ, _+_, _<_, _≤_}
-use mathlib.Core.Path.{_≡_, refl, sym, _∙_, ap, subst}
-use mathlib.Core.Bool.{Bool, true, false}
+use mathlib.Core.Path.{_≡_, refl, sym, _∙_, ap}
+use mathlib.Core.Bool.{true, false}
 use mathlib.Core.List.{List, [], _∷_, _++_}
 use native.Mathlib.Nat.{le-trans}
 use native.Mathlib.Omega.{arith}
 use borrow.Author.Tests.{le-leb, lt-leb}
 use lib.ListN.{length, getD, take, drop, set, length-append}
-use Rattle.base.specs.Counting.{pick}
 use Rattle.base.specs.Tables.{fold}
 use Rattle.base.specs.Refusal.{refusal}
-use Rattle.base.proofs.Bools.{by-test, pick-yes, pick-no, never}
+use Rattle.base.proofs.Bools.{by-test, pick-yes, pick-no}
 use Rattle.base.proofs.Numbers.{lt-or-le}
 use Rattle.rules.specs.Bounds.{queueRoom, ROOM}
 use Rattle.rules.specs.Forced.{queued, queueOf, padded, isQueued, withPosition, withPositions}
@@ -78,7 +77,8 @@ tidy-entries q t = ap (λ (r : ForcedPipeline). r .entries) (t .as-list)
 
 -- the three ways of adding one
 module _ (q : ForcedPipeline) (e : ForcedPosition) (t : Tidy q) where
-  pub adds-old : isQueued (e .coordinates) (queued q) ≡ true → _≡_ {A = Grown} (record { answer = Done; queue = q }) (grownTo q (withPosition (queued q) e))
+  pub adds-old : isQueued (e .coordinates) (queued q) ≡ true
+      → _≡_ {A = Grown} (record { answer = Done; queue = q }) (grownTo q (withPosition (queued q) e))
   adds-old h =
       ap (λ (r : ForcedPipeline). record { answer = Done; queue = r }) (t .as-list)
       ∙ grown-all q (queued q) (omega (arith, tidy-length q t, t .in-room))
@@ -88,13 +88,18 @@ module _ (q : ForcedPipeline) (e : ForcedPosition) (t : Tidy q) where
     longer : length (queued q ++ (e ∷ [])) ≡ q .len + 1
     longer = length-append (queued q) (e ∷ []) ∙ ap (λ (n : ℕ). n + 1) (tidy-length q t)
 
-    pub adds-none : q .len ≡ queueRoom → _≡_ {A = Grown} (record { answer = Refused ROOM; queue = q }) (grownTo q (withPosition (queued q) e))
+    pub adds-none : q .len ≡ queueRoom
+        → _≡_ {A = Grown} (record { answer = Refused ROOM; queue = q }) (grownTo q (withPosition (queued q) e))
     adds-none k = grown-none q (queued q ++ (e ∷ [])) (omega (arith, longer)) ∙ ap (grownTo q) (sym (with-new (queued q) e h))
 
-    pub adds-new : q .len < queueRoom → _≡_ {A = Grown} (record { answer = Done; queue = record { entries = set (q .entries) (q .len) e; len = q .len + 1 } }) (grownTo q (withPosition (queued q) e))
+    pub adds-new : q .len < queueRoom
+        → _≡_ {A = Grown} (record { answer = Done; queue = record { entries = set (q .entries) (q .len) e; len = q .len + 1 } })
+        (grownTo q (withPosition (queued q) e))
     adds-new k =
-        let g : set (q .entries) (q .len) e ≡ padded queueRoom (queued q ++ (e ∷ [])) = filled (q .entries) (queued q) (q .len) e (tidy-entries q t) (tidy-length q t) k in
-        ap (λ (r : ForcedPipeline). record { answer = Done; queue = r }) (queue-is (set (q .entries) (q .len) e) (queued q ++ (e ∷ [])) (q .len + 1) g (sym longer))
+        let l : List ForcedPosition = queued q ++ (e ∷ []) in
+        let g : set (q .entries) (q .len) e ≡ padded queueRoom l =
+        filled (q .entries) (queued q) (q .len) e (tidy-entries q t) (tidy-length q t) k in
+        ap (λ (r : ForcedPipeline). record { answer = Done; queue = r }) (queue-is (set (q .entries) (q .len) e) l (q .len + 1) g (sym longer))
         ∙ grown-all q (queued q ++ (e ∷ [])) (omega (arith, longer))
         ∙ ap (grownTo q) (sym (with-new (queued q) e h))
 
@@ -104,7 +109,8 @@ unfolding withPositions fold
 grows l [] = omega arith
 grows l (e ∷ more) = le-trans (one-grows l e) (grows (withPosition l e) more)
 
-pub with-one : (l : List ForcedPosition) (e : ForcedPosition) (more : List ForcedPosition) → withPositions l (e ∷ more) ≡ withPositions (withPosition l e) more
+pub with-one : (l : List ForcedPosition) (e : ForcedPosition) (more : List ForcedPosition)
+    → withPositions l (e ∷ more) ≡ withPositions (withPosition l e) more
 unfolding withPositions fold
 with-one l e more = refl
 
@@ -142,15 +148,18 @@ module _ (q : ForcedPipeline) (more : List ForcedPosition) (n : ℕ) where
             rest = ap (λ (m : List ForcedPosition). withPositions m (drop (i + 1) (take n more))) (ap queued (w .1) ∙ queued-of l) ∙ next;
           }
 
-      pub grows-too-far : (m : ℕ) → g .answer ≡ Refused m → _≡_ {A = Grown} (record { answer = g .answer; queue = q }) (grownTo q (withPositions (queued q) (take n more)))
+      pub grows-too-far : (m : ℕ) → g .answer ≡ Refused m
+          → _≡_ {A = Grown} (record { answer = g .answer; queue = q }) (grownTo q (withPositions (queued q) (take n more)))
       grows-too-far m a =
           let l : List ForcedPosition = withPosition (queued grown) (getD more i d) in
           let w = was-none grown l g m e a in
           ap (λ (x : Written). record { answer = x; queue = q }) (w .1)
           ∙ grown-none q (withPositions (queued q) (take n more)) (omega (arith, w .0, grows l (drop (i + 1) (take n more)), ap length next))
 
-  pub grows-end : (grown : ForcedPipeline) (i : ℕ) → n ≤ i → Grows q more n grown i → _≡_ {A = Grown} (record { answer = Done; queue = grown }) (grownTo q (withPositions (queued q) (take n more)))
+  pub grows-end : (grown : ForcedPipeline) (i : ℕ) → n ≤ i → Grows q more n grown i
+      → _≡_ {A = Grown} (record { answer = Done; queue = grown }) (grownTo q (withPositions (queued q) (take n more)))
   grows-end grown i h s =
-      let e : queued grown ≡ withPositions (queued q) (take n more) = sym (with-none (queued grown)) ∙ ap (withPositions (queued grown)) (sym (none-left more n i h)) ∙ s .rest in
+      let e : queued grown ≡ withPositions (queued q) (take n more) =
+      sym (with-none (queued grown)) ∙ ap (withPositions (queued grown)) (sym (none-left more n i h)) ∙ s .rest in
       ap (λ (r : ForcedPipeline). record { answer = Done; queue = r }) (s .tidy .as-list ∙ ap queueOf e)
       ∙ grown-all q (withPositions (queued q) (take n more)) (omega (arith, ap length e, tidy-length grown (s .tidy), s .tidy .in-room))

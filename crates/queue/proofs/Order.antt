@@ -1,16 +1,15 @@
 -- What a reader may lean on: the queue is first in, first out, over every run of calls, refused ones included; adding puts the new
 -- places at the back, in order, and skips those that are queued; no place is queued twice.
 -- Assumes nothing.
-use Prim.Native.Nat.{ℕ, zero, suc, _≤_}
+use Prim.Native.Nat.{ℕ, zero, suc}
 use mathlib.Core.Path.{_≡_, refl, sym, _∙_, ap}
-use mathlib.Core.Bool.{Bool, true, false, not, _&&_}
+use mathlib.Core.Bool.{Bool, true, false, not}
 use mathlib.Core.List.{List, [], _∷_, _++_, append-nil, append-assoc}
-use lib.ListN.{length, drop}
-use Rattle.base.specs.Tables.{fold}
-use Rattle.base.specs.Refusal.{refusal, unlessRefused}
+use lib.ListN.{drop}
+use Rattle.base.specs.Refusal.{refusal}
 use Rattle.base.proofs.Bools.{by-test, and-left, and-right, and-both, not-is-true}
 use Rattle.rules.specs.Answers.{nextAnswer}
-use Rattle.rules.specs.Forced.{queued, offered, queueOf, isQueued, withPosition, withPositions, queueChecks, addChecks, takenFrom, grownBy}
+use Rattle.rules.specs.Forced.{queued, offered, queueOf, isQueued, withPositions, queueChecks, addChecks, takenFrom, grownBy}
 use Rattle.rules.specs.declared.ForcedPosition.{ForcedPosition}
 use Rattle.rules.specs.declared.ForcedPositions.{ForcedPositions}
 use Rattle.rules.specs.declared.ForcedPipeline.{ForcedPipeline}
@@ -29,12 +28,15 @@ appended l (e ∷ more) =
     (λ h. rw (with-new l e h, h) (appended (l ++ (e ∷ [])) more ∙ append-assoc l (e ∷ []) (fresh (l ++ (e ∷ [])) more)))
 
 -- no place is queued twice
-twice-last : (before l : List ForcedPosition) (e : ForcedPosition) → noneTwice before l ≡ true → isQueued (e .coordinates) (before ++ l) ≡ false → noneTwice before (l ++ (e ∷ [])) ≡ true
+twice-last : (before l : List ForcedPosition) (e : ForcedPosition) → noneTwice before l ≡ true
+    → isQueued (e .coordinates) (before ++ l) ≡ false → noneTwice before (l ++ (e ∷ [])) ≡ true
 unfolding noneTwice
-twice-last before [] e h k = and-both (not (isQueued (e .coordinates) before)) true (not-is-true (isQueued (e .coordinates) before) (rw append-nil at k)) refl
+twice-last before [] e h k =
+    and-both (not (isQueued (e .coordinates) before)) true (not-is-true (isQueued (e .coordinates) before) (rw append-nil at k)) refl
 twice-last before (x ∷ l) e h k =
-    and-both (not (isQueued (x .coordinates) before)) (noneTwice (before ++ (x ∷ [])) (l ++ (e ∷ []))) (and-left (not (isQueued (x .coordinates) before)) (noneTwice (before ++ (x ∷ [])) l) h)
-    (twice-last (before ++ (x ∷ [])) l e (and-right (not (isQueued (x .coordinates) before)) (noneTwice (before ++ (x ∷ [])) l) h) (rw append-assoc k))
+    let new : Bool = not (isQueued (x .coordinates) before) in
+    and-both new (noneTwice (before ++ (x ∷ [])) (l ++ (e ∷ []))) (and-left new (noneTwice (before ++ (x ∷ [])) l) h)
+    (twice-last (before ++ (x ∷ [])) l e (and-right new (noneTwice (before ++ (x ∷ [])) l) h) (rw append-assoc k))
 
 pub once : (l more : List ForcedPosition) → noneTwice [] l ≡ true → noneTwice [] (withPositions l more) ≡ true
 once l [] h = rw (with-none l) h
@@ -49,12 +51,16 @@ first-out : (l : List ForcedPosition) → l ++ [] ≡ positionIn (nextAnswer 0 l
 first-out [] = refl
 first-out (e ∷ l) = append-nil (e ∷ l)
 
-taking-keeps : (q : ForcedPipeline) (n : ℕ) → n ≡ refusal (queueChecks q) → queued q ++ comesIn q taking ≡ goesOut q taking ++ queued (left q taking)
+taking-keeps : (q : ForcedPipeline) (n : ℕ) → n ≡ refusal (queueChecks q)
+    → queued q ++ comesIn q taking ≡ goesOut q taking ++ queued (left q taking)
 unfolding comesIn goesOut left takenFrom
-taking-keeps q zero e = rw (sym e) (first-out (queued q) ∙ ap (λ (l : List ForcedPosition). positionIn (nextAnswer 0 (queued q)) ++ l) (sym (queued-of (drop 1 (queued q)))))
+taking-keeps q zero e =
+    rw (sym e)
+    (first-out (queued q) ∙ ap (λ (l : List ForcedPosition). positionIn (nextAnswer 0 (queued q)) ++ l) (sym (queued-of (drop 1 (queued q)))))
 taking-keeps q (suc n) e = rw (sym e) (append-nil (queued q))
 
-adding-keeps : (q : ForcedPipeline) (p : ForcedPositions) (n : ℕ) → n ≡ refusal (addChecks q p) → queued q ++ comesIn q (adding p) ≡ goesOut q (adding p) ++ queued (left q (adding p))
+adding-keeps : (q : ForcedPipeline) (p : ForcedPositions) (n : ℕ) → n ≡ refusal (addChecks q p)
+    → queued q ++ comesIn q (adding p) ≡ goesOut q (adding p) ++ queued (left q (adding p))
 unfolding comesIn goesOut left grownBy
 adding-keeps q p zero e = rw (sym e) (sym (appended (queued q) (offered p)) ∙ sym (queued-of (withPositions (queued q) (offered p))))
 adding-keeps q p (suc n) e = rw (sym e) (append-nil (queued q))

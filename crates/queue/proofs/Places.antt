@@ -1,7 +1,7 @@
 -- Laws of places: that the machine's equality of 32 bits is equality of whole numbers, and what one turn of a loop over the first n
 -- entries of an array leaves to be asked: the loop's list is its entry i and then the list from i + 1 on.
 -- Assumes nothing.
-use Prim.Native.Nat.{ℕ, zero, suc, _+_, _<_, _≤_}
+use Prim.Native.Nat.{ℕ, _+_, _<_, _≤_}
 use mathlib.Core.Path.{_≡_, refl, sym, _∙_, ap, subst}
 use mathlib.Core.Bool.{Bool, true, false, _&&_, _||_}
 use mathlib.Core.List.{List, [], _∷_}
@@ -16,7 +16,7 @@ use mir.Val.{SFits, toZ, ofZ}
 use mir.Facts.{toZ-ofZ}
 use borrow.Author.Tests.{eq-eqb, eqb-true, ne-eqb}
 use Rattle.base.specs.Whole.{eqZ}
-use Rattle.base.proofs.Bools.{same-test, by-test, never}
+use Rattle.base.proofs.Bools.{same-test, never}
 use Rattle.rules.specs.Tests.{onWall}
 use Rattle.rules.specs.Forced.{samePlace, isQueued, allOnWall}
 use Rattle.rules.specs.declared.World.{World}
@@ -54,27 +54,34 @@ module _ (es : List ForcedPosition) (n i : ℕ) where
   pub none-left : n ≤ i → drop i (take n es) ≡ []
   none-left h = drop-of-length-le (take n es) {i = i} (simp length-take (omega arith))
 
--- the search
-pub queued-at : (w : World) (e : ForcedPosition) (l : List ForcedPosition) → samePlace (e .coordinates) w ≡ true → isQueued w (e ∷ l) ≡ true
-unfolding isQueued
-queued-at w e l h = rw h
+-- the search: whether the place is among the entries from i on decides whether it is queued
+module _ (w : World) (es : List ForcedPosition) (n i : ℕ) (inv : isQueued w (drop i (take n es)) ≡ isQueued w (take n es)) where
+  module _ (d : ForcedPosition) (h : i < n) (k : n ≤ length es) {here : Bool} (e : here ≡ samePlace (getD es i d .coordinates) w) where
+    asks-entry : isQueued w (take n es) ≡ (here || isQueued w (drop (i + 1) (take n es)))
+    unfolding isQueued
+    asks-entry = sym inv ∙ rw (still es n i d h k, e)
 
-pub queued-not-at : (w : World) (e : ForcedPosition) (l : List ForcedPosition) → samePlace (e .coordinates) w ≡ false → isQueued w (e ∷ l) ≡ isQueued w l
-unfolding isQueued
-queued-not-at w e l h = rw h
+    pub search-found : here ≡ true → true ≡ isQueued w (take n es)
+    search-found t = sym (asks-entry ∙ rw t)
 
-pub queued-nowhere : (w : World) → isQueued w [] ≡ false
-unfolding isQueued
-queued-nowhere w = refl
+    pub search-on : here ≡ false → isQueued w (drop (i + 1) (take n es)) ≡ isQueued w (take n es)
+    search-on t = sym (asks-entry ∙ rw t)
 
--- the check
+  pub search-end : n ≤ i → false ≡ isQueued w (take n es)
+  unfolding isQueued
+  search-end h = ap (isQueued w) (sym (none-left es n i h)) ∙ inv
+
+-- the check: the entries passed and those from i on are on the wall exactly if all are
 module _ (es : List ForcedPosition) (n i : ℕ) where
-  pub wall-turn : (d : ForcedPosition) → i < n → n ≤ length es → (fine here : Bool) → here ≡ onWall (getD es i d .coordinates) → (fine && allOnWall (drop i (take n es))) ≡ allOnWall (take n es) → ((fine && here) && allOnWall (drop (i + 1) (take n es))) ≡ allOnWall (take n es)
+  pub wall-turn : (d : ForcedPosition) → i < n → n ≤ length es → (fine here : Bool) → here ≡ onWall (getD es i d .coordinates)
+      → (fine && allOnWall (drop i (take n es))) ≡ allOnWall (take n es)
+      → ((fine && here) && allOnWall (drop (i + 1) (take n es))) ≡ allOnWall (take n es)
   unfolding allOnWall
   wall-turn d h k true here e inv = rw e (ap allOnWall (sym (still es n i d h k)) ∙ inv)
   wall-turn d h k false here e inv = inv
 
-  pub wall-end : (fine : Bool) → n ≤ i → (fine && allOnWall (drop i (take n es))) ≡ allOnWall (take n es) → fine ≡ allOnWall (take n es)
+  pub wall-end : (fine : Bool) → n ≤ i → (fine && allOnWall (drop i (take n es))) ≡ allOnWall (take n es)
+      → fine ≡ allOnWall (take n es)
   unfolding allOnWall
   wall-end true h inv = ap allOnWall (sym (none-left es n i h)) ∙ inv
   wall-end false h inv = inv

@@ -36,7 +36,8 @@ abbrev result : (T : Ended) → Lfts (T .signature .lifetimes) → RattleType
 result T κs = typeAt (T .signature .result) κs
 
 module _ {M : Type 1} {𝓤 : URA M} {H : Heap 𝓤} {A : Atoms 𝓤} {K : Type 0} {W : Given 𝓤 H A} {Γ : List (Item 𝓤)} {E : Env 𝓤 H} {C : Calls 𝓤 H} {Λ : Loops 𝓤 H} {f : Name} {xs : List Operand} {d : Place} {q : Post 𝓤 H} where
-  pub asks : K → FmC 𝓤 H (W .laws) C → {rest : Body} {i : Item 𝓤} (T : Ended) (c : Clauses 𝓤 T) → Triple 𝓤 (C f) (asked 𝓤 H A T c) → (x : asked 𝓤 H A T c .Ghost) → ent 𝓤 (mean 𝓤 H A i) (asked 𝓤 H A T c .pre x)
+  pub asks : K → FmC 𝓤 H (W .laws) C → {rest : Body} {i : Item 𝓤} (T : Ended) (c : Clauses 𝓤 T) → Triple 𝓤 (C f) (asked 𝓤 H A T c)
+      → (x : asked 𝓤 H A T c .Ghost) → ent 𝓤 (mean 𝓤 H A i) (asked 𝓤 H A T c .pre x)
       → (φ : result T (x .0 .0) .Denot → Type 0) → ((r : result T (x .0 .0) .Denot) (e : AtExit T (x .0 .0)) → ent 𝓤 (c (x .0 .0) (x .0 .3) .ensures (x .1) r e) (fact 𝓤 (φ r)))
       → Opds K W (raw (asked 𝓤 H A T c .pre x) ∷ Γ) E xs (asked 𝓤 H A T c .args x)
       → ((v : Val) (r : result T (x .0 .0) .Denot) → φ r → Is (result T (x .0 .0)) r (v ∷ []) → Seq K W (‵ (result T (x .0 .0) .own r (v ∷ [])) ∷ Γ) (lands C Λ E d v rest q))

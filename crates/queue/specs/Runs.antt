@@ -1,5 +1,4 @@
 -- Runs of calls on one queue, for the statement that it is first in, first out: what goes in, what comes out, what is left.
-use Prim.Native.Nat.{ℕ}
 use mathlib.Core.Bool.{Bool, true, not, _&&_}
 use mathlib.Core.List.{List, [], _∷_, _++_}
 use Rattle.base.specs.Counting.{pick}

@@ -27,7 +27,7 @@ pub fn new() -> ForcedPipeline
         colour: 0,
     };
     ForcedPipeline {
-        entries: [none; 64],
+        entries: [none; rules::QUEUE_ROOM],
         len: 0,
     }
 }
@@ -76,7 +76,8 @@ pub fn len(queue: ForcedPipeline) -> Number
     Number::Is(queue.len)
 }
 
-// The two parts of what taking answers, and of what adding answers.
+// The two parts of what taking answers, and of what adding answers. Each is a call of its own, so that the two functions behind them
+// are no more than a read, calls and a store: the proof walks them by hand, and knows the callees by their contracts alone.
 fn taken_next(taken: Taken) -> Next
     ensures { λ r. ⌜ r ≡ taken .next ⌝ }
 {
@@ -122,7 +123,7 @@ pub fn add_positions_to(queue: &mut ForcedPipeline, positions: ForcedPositions) 
 {
     let old = *queue;
     let grown = add_positions(old, positions);
-    let left = grown_queue(grown);
-    *queue = left;
+    let after = grown_queue(grown);
+    *queue = after;
     grown_answer(grown)
 }

@@ -1,5 +1,4 @@
-// Adding and taking where the lengths are known to be in bounds: the calls beneath which the checks are made, and a run over a queue of its
-// own, which makes them once, end here.
+// Adding and taking, for a caller that has made the checks of `refusals` or has a queue of its own: only the lengths are asked for.
 ghost use mathlib.Core.Path.{_≡_};
 ghost use Prim.Native.Nat.{_≤_};
 ghost use lib.ListN.{drop};
@@ -74,21 +73,27 @@ fn is_queued(queue: ForcedPipeline, place: World) -> bool
 }
 
 // One position more, at the back, unless its place is queued; ROOM where no entry is free.
-fn add_position(queue: ForcedPipeline, position: ForcedPosition) -> Grown
-    requires { ⌜ Tidy queue ⌝ }
-    ensures { λ r. ⌜ r ≡ grownTo queue (withPosition (queued queue) position) ⌝ }
+fn add_position(before: ForcedPipeline, position: ForcedPosition) -> Grown
+    requires { ⌜ Tidy before ⌝ }
+    ensures { λ r. ⌜ r ≡ grownTo before (withPosition (queued before) position) ⌝ }
 {
     let place = position.coordinates;
-    if is_queued(queue, place) {
+    if is_queued(before, place) {
         let answer = Written::Done;
-        return Grown { answer, queue };
+        return Grown {
+            answer,
+            queue: before,
+        };
     }
-    let n = queue.len;
+    let n = before.len;
     if n == rules::QUEUE_ROOM {
         let answer = Written::Refused(rules::ROOM);
-        return Grown { answer, queue };
+        return Grown {
+            answer,
+            queue: before,
+        };
     }
-    let mut entries = queue.entries;
+    let mut entries = before.entries;
     entries[n] = position;
     let grown = ForcedPipeline {
         entries,

@@ -1,2 +1,3 @@
 pub mod Recounts
 pub mod Leaning
+pub mod Coincide

@@ -4,8 +4,8 @@
 --     dead-laid, dead-light, dead-listed    whether a cell qualifies
 --     refused-is    a refusal
 -- Assumes nothing.
-use Prim.Native.Nat.{ℕ, zero, suc, _+_, _*_, _/_, _%_, _^_, _<_, _≤_}
-use mathlib.Core.Path.{_≡_, refl, sym, _∙_, ap, ap₂}
+use Prim.Native.Nat.{ℕ, zero, suc, _+_, _*_, _/_, _%_, _<_, _≤_}
+use mathlib.Core.Path.{_≡_, refl, sym, _∙_, ap}
 use mathlib.Core.Bool.{Bool, true, false, not, _&&_}
 use mathlib.Core.List.{List}
 use native.Mathlib.Nat.{add-mul, one-mul, zero-mul}
@@ -18,16 +18,11 @@ use Rattle.base.proofs.Bools.{never, by-test, and-no-left, and-no-right}
 use Rattle.base.proofs.Numbers.{row-of, col-of}
 use Rattle.base.proofs.Counted.{some-none, some-is, some-next, first-is, first-none}
 use Rattle.rules.specs.Answers.{deadEndAnswer}
-use Rattle.rules.specs.Sets.{has, bitsOf, setOf, coloursOf}
 use Rattle.rules.specs.Grid.{Shape}
 use Rattle.rules.specs.Forced.{listedAt, deadAt}
-use Rattle.rules.specs.declared.TileBitset.{TileBitset}
 use Rattle.rules.specs.declared.Cell.{Cell}
 use Rattle.rules.specs.declared.DeadEnd.{DeadEnd}
 use Rattle.rules.specs.declared.DeadEnd.the-variants.{At, Nowhere, Refused}
-use Rattle.sets.proofs.Digits.{bits-lt}
-use Rattle.sets.proofs.Colours.{colours-back}
-use Rattle.sets.proofs.Calls.{set-bits}
 use Rattle.scan.specs.Scanned.{foundBy}
 
 none-of : (test : ℕ → Bool) (n : ℕ) → some n test ≡ false → (k : ℕ) → k < n → test k ≡ false
@@ -68,12 +63,6 @@ pub rows-done : (test : ℕ → Bool) (rows row cols : ℕ) → row ≤ rows →
 rows-done test rows row cols p q e =
     let z : rows ≡ row = omega arith in
     ap (λ (m : ℕ). some (m * cols) test) z ∙ e
-
--- what is said of the colours of a set that was listed, in any number of bits, is said of the colours listed
-pub listed-set : {A : Type 0} {r : A} (say : List ℕ → A) (s : TileBitset) (n : ℕ) (f : ℕ → Bool) → s ≡ setOf n f
-    → ((m : ℕ) → s .bits < 2 ^ m → r ≡ say (coloursOf m (has (s .bits)))) → r ≡ say (coloursOf n f)
-listed-set say s n f e h =
-    h n (rw (set-bits s n f e) (bits-lt n f)) ∙ ap (λ (x : ℕ). say (coloursOf n (has x))) (set-bits s n f e) ∙ ap say (colours-back n f)
 
 module _ (g : Shape) (tiles pieces weights : List ℕ) (count k : ℕ) where
   pub dead-laid : 1 < getD pieces k 0 → false ≡ deadAt g tiles pieces weights count k

@@ -3,3 +3,4 @@ pub mod Spans
 pub mod Nearby
 pub mod Placing
 pub mod Leaning
+pub mod Coincide

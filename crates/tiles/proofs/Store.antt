@@ -13,15 +13,19 @@ use native.Mathlib.Numerals.{add-one}
 use native.Mathlib.Omega.{arith}
 use borrow.Author.Tests.{le-leb, lt-leb}
 use lib.Dec.{leb}
-use lib.ListN.{length, getD, set, take, drop, length-take, length-drop, length-append, take-append-drop}
+use lib.ListN.{length, getD, set, take, drop, replicate, length-take, length-drop, length-append, take-append-drop}
 use lib.Seq.{paste, paste-suc, take-all, take-append-le, length-take-le, drop-drop, drop-append-add, take-at}
 use Rattle.base.specs.Counting.{pick}
 use Rattle.base.specs.Refusal.{accepted, refusal, Gives}
+use Rattle.base.proofs.Bools.{pick-yes, pick-no}
 use Rattle.base.proofs.Chain.{refuse-by, pass-by, no-check}
-use Rattle.rules.specs.Bounds.{ROOM}
+use Rattle.rules.specs.Bounds.{maxTiles, ROOM}
 use Rattle.rules.specs.Tests.{tilesIn}
 use Rattle.rules.specs.Answers.{tileAnswer}
 use Rattle.rules.specs.Tiles.{hasTile, withTile, distinct, storeWith, roomCheck}
+use Rattle.seen.specs.Chains.{buckets, bucketOf, Chained}
+use Rattle.seen.proofs.Buckets.{chained-none, chained-more}
+use Rattle.tiles.specs.Adding.{Adds}
 use Rattle.rules.specs.declared.TileNumber.{TileNumber}
 use Rattle.rules.specs.declared.TileNumber.the-variants.{Tiles, Refused}
 
@@ -37,40 +41,56 @@ pub put-turn : (d e t : List ℕ) (at k : ℕ) → e ≡ paste d at t k → at +
 put-turn d e t at k p h l = rw (p, add-one) (paste-suc d at t k 0 h l)
 
 -- ---- one tile more: it is there, there is no room for it, or it is put behind the others
-module _ (d t : List ℕ) (n : ℕ) (fine : n ≤ tilesIn d) (nine : length t ≡ 9) where
+module _ (d t heads nexts : List ℕ) (n : ℕ) (fine : n ≤ tilesIn d) (few : n < maxTiles) (nine : length t ≡ 9) (c : Chained (take (n * 9) d) heads nexts) where
   own : length (take (n * 9) d) ≡ n * 9
   own = length-take-le (n * 9) d (omega arith)
 
   more : length (take (n * 9) d ++ t) ≡ n * 9 + 9
   more = simp (length-append, own, nine)
 
-  abbrev Adds : ℕ → List ℕ → Type 0
-  Adds r x = (r ≡ tilesIn (withTile (take (n * 9) d) t)) × (x ≡ storeWith (withTile (take (n * 9) d) t) d)
-
-  pub held : hasTile (take (n * 9) d) t ≡ true → Adds n d
+  pub held : hasTile (take (n * 9) d) t ≡ true → Adds d n t n d heads nexts
   unfolding withTile
   held e =
-      rw e
-      (omega (arith, own), sym (store-all (take (n * 9) d) d (omega (arith, own)) ∙ ap (λ (m : ℕ). take (n * 9) d ++ drop m d) own ∙ take-append-drop (n * 9) d))
+      let w : withTile (take (n * 9) d) t ≡ take (n * 9) d = pick-yes (hasTile (take (n * 9) d) t) (take (n * 9) d) (take (n * 9) d ++ t) e in
+      record {
+        counted = rw w (omega (arith, own));
+        stored = rw w (sym (store-all (take (n * 9) d) d (omega (arith, own)) ∙ ap (λ (m : ℕ). take (n * 9) d ++ drop m d) own ∙ take-append-drop (n * 9) d));
+        chained = λ l. rw w c;
+      }
 
-  pub no-room : hasTile (take (n * 9) d) t ≡ false → length d - n * 9 < 9 → Adds (n + 1) d
-  unfolding withTile storeWith
-  no-room e h =
-      let q : n ≡ tilesIn d = omega arith in
-      let f : take (tilesIn d * 9) (take (n * 9) d ++ t) ≡ take (n * 9) d =
-      ap (λ (m : ℕ). take (m * 9) (take (n * 9) d ++ t)) (sym q) ∙ take-at (take (n * 9) d) t (n * 9) own in
-      rw e (omega (arith, more), sym (rw (f, own) (take-append-drop (n * 9) d)))
+  module _ (e : hasTile (take (n * 9) d) t ≡ false) where
+    grown : withTile (take (n * 9) d) t ≡ take (n * 9) d ++ t
+    unfolding withTile
+    grown = pick-no (hasTile (take (n * 9) d) t) (take (n * 9) d) (take (n * 9) d ++ t) e
 
-  pub put : (x : List ℕ) → hasTile (take (n * 9) d) t ≡ false → 9 ≤ length d - n * 9 → x ≡ paste d (n * 9) t 9 → Adds (n + 1) x
-  unfolding withTile
-  put x e h p =
-      rw e (
-        omega (arith, more),
-        p
-            ∙ sym (store-all (take (n * 9) d ++ t) d (omega (arith, more))
-            ∙ ap (λ (j : ℕ). (take (n * 9) d ++ t) ++ drop j d) more
-            ∙ ap (λ (y : List ℕ). (take (n * 9) d ++ y) ++ drop (n * 9 + 9) d) (sym (take-all 9 t (omega arith)))),
-      )
+    pub no-room : length d - n * 9 < 9 → Adds d n t (n + 1) d heads nexts
+    unfolding storeWith
+    no-room h =
+        let q : n ≡ tilesIn d = omega arith in
+        let f : take (tilesIn d * 9) (take (n * 9) d ++ t) ≡ take (n * 9) d =
+        ap (λ (m : ℕ). take (m * 9) (take (n * 9) d ++ t)) (sym q) ∙ take-at (take (n * 9) d) t (n * 9) own in
+        record {
+          counted = rw grown (omega (arith, more));
+          stored = rw (grown, f, own) (sym (take-append-drop (n * 9) d));
+          chained = λ l. absurd (out l q);
+        }
+      where
+        out : {a b : ℕ} → a + 1 ≤ b → a ≡ b → ⊥
+        out p q = omega arith
+
+    pub put : (b : ℕ) (x heads′ nexts′ : List ℕ) → 9 ≤ length d - n * 9 → (b ≡ bucketOf (λ k. getD t k 0)) × (b < buckets) → x ≡ paste d (n * 9) t 9
+        → (heads′ ≡ set heads b (n + 1)) × (nexts′ ≡ set nexts n (getD heads b 0)) → Adds d n t (n + 1) x heads′ nexts′
+    put b x heads′ nexts′ h k p w =
+        record {
+          counted = rw grown (omega (arith, more));
+          stored =
+              rw grown
+              (p
+              ∙ sym (store-all (take (n * 9) d ++ t) d (omega (arith, more))
+              ∙ ap (λ (j : ℕ). (take (n * 9) d ++ t) ++ drop j d) more
+              ∙ ap (λ (y : List ℕ). (take (n * 9) d ++ y) ++ drop (n * 9 + 9) d) (sym (take-all 9 t (omega arith)))));
+          chained = λ l. rw (grown, w .0, w .1) (chained-more (take (n * 9) d) t heads nexts n b c own nine few (k .1) (k .0));
+        }
 
 -- ---- the distinct tiles of a run of tiles
 
@@ -130,40 +150,51 @@ store-over l x d h g =
         ∙ drop-drop (m - length l) (length l) d
         ∙ ap (λ (k : ℕ). drop k d) (sym s)
 
-pub record Kept (f : ℕ → List ℕ) (d : List ℕ) (v n : ℕ) (x : List ℕ) : Type 0 where
+pub record Kept (f : ℕ → List ℕ) (d : List ℕ) (v n : ℕ) (x heads nexts : List ℕ) : Type 0 where
   pub whole : length (distinct v f) ≡ n * 9
   pub fitted : n ≤ tilesIn d
   pub few : n ≤ v
   pub same : length x ≡ length d
   pub stored : x ≡ storeWith (distinct v f) d
+  pub chained : Chained (distinct v f) heads nexts
 
-pub kept-none : (f : ℕ → List ℕ) (d : List ℕ) → Kept f d 0 0 d
+pub kept-none : (f : ℕ → List ℕ) (d : List ℕ) → Kept f d 0 0 d (replicate buckets 0) (replicate maxTiles 0)
 unfolding distinct
-kept-none f d = record { whole = refl; fitted = omega arith; few = omega arith; same = refl; stored = sym (store-all [] d (omega arith)) }
+kept-none f d =
+    record {
+      whole = refl;
+      fitted = omega arith;
+      few = omega arith;
+      same = refl;
+      stored = sym (store-all [] d (omega arith));
+      chained = chained-none;
+    }
 
-module _ (f : ℕ → List ℕ) (d : List ℕ) (v n : ℕ) (x : List ℕ) (k : Kept f d v n x) where
+module _ (f : ℕ → List ℕ) (d : List ℕ) (v n : ℕ) (x heads nexts : List ℕ) (k : Kept f d v n x heads nexts) where
   -- the tiles kept so far are those at the store's head
   pub kept-back : take (n * 9) x ≡ distinct v f
   kept-back = ap (take (n * 9)) (k .stored ∙ store-all (distinct v f) d (omega (arith, k))) ∙ take-at (distinct v f) _ (n * 9) (k .whole)
 
-  module _ (t : List ℕ) (r : ℕ) (y : List ℕ) (here : t ≡ f v) (nine : length t ≡ 9)
-      (told : (r ≡ tilesIn (withTile (take (n * 9) x) t)) × (y ≡ storeWith (withTile (take (n * 9) x) t) x)) where
+  pub kept-chained : Chained (take (n * 9) x) heads nexts
+  kept-chained = rw kept-back (k .chained)
+
+  module _ (t : List ℕ) (r : ℕ) (y heads′ nexts′ : List ℕ) (here : t ≡ f v) (nine : length t ≡ 9) (told : Adds x n t r y heads′ nexts′) where
     is-more : withTile (take (n * 9) x) t ≡ distinct (v + 1) f
     is-more = rw (kept-back, here) (sym (distinct-more f v))
 
     kept-count : r ≡ tilesIn (distinct (v + 1) f)
-    kept-count = rw is-more at (told .0)
+    kept-count = rw is-more at (told .counted)
 
     kept-size : (m : ℕ) × (length (distinct (v + 1) f) ≡ m * 9) × (n ≤ m) × (m ≤ n + 1)
     kept-size = rw (distinct-more f v) (with-length (distinct v f) (f v) (ap length (sym here) ∙ nine) n (k .whole))
 
     kept-store : y ≡ storeWith (distinct (v + 1) f) d
     kept-store =
-        told .1 ∙ ap (λ (l : List ℕ). storeWith l x) is-more
+        told .stored ∙ ap (λ (l : List ℕ). storeWith l x) is-more
         ∙ ap (λ (z : List ℕ). storeWith (distinct (v + 1) f) z) (k .stored)
         ∙ store-over (distinct v f) (distinct (v + 1) f) d (omega (arith, k)) (omega (arith, k, kept-size))
 
-    pub kept-on : r ≤ tilesIn d → length y ≡ length d → Kept f d (v + 1) r y
+    pub kept-on : r ≤ tilesIn d → length y ≡ length d → Kept f d (v + 1) r y heads′ nexts′
     kept-on h e =
         record {
           whole = omega (arith, kept-count, kept-size);
@@ -171,6 +202,7 @@ module _ (f : ℕ → List ℕ) (d : List ℕ) (v n : ℕ) (x : List ℕ) (k : K
           few = omega (arith, kept-count, kept-size, k);
           same = e;
           stored = kept-store;
+          chained = rw (sym is-more) (told .chained (omega (arith, k .same)));
         }
 
     -- where they no longer fit, what the store holds is final
@@ -196,16 +228,15 @@ tiles-answer l d n e h =
 abbrev pub Gathered : (ℕ → List ℕ) → ℕ → List ℕ → TileNumber → List ℕ → Type 0
 Gathered f m d a x = Gives (tileAnswer (refusal (roomCheck (distinct m f) d)) (tilesIn (distinct m f))) (storeWith (distinct m f) d) a x
 
-module _ (f : ℕ → List ℕ) (d : List ℕ) (v n : ℕ) (x : List ℕ) (k : Kept f d v n x) (total m : ℕ) (all : total ≡ m) where
-  pub full-end : (t : List ℕ) (r : ℕ) (y : List ℕ) → t ≡ f v → length t ≡ 9
-      → (r ≡ tilesIn (withTile (take (n * 9) x) t)) × (y ≡ storeWith (withTile (take (n * 9) x) t) x) → v < total → tilesIn d < r
+module _ (f : ℕ → List ℕ) (d : List ℕ) (v n : ℕ) (x heads nexts : List ℕ) (k : Kept f d v n x heads nexts) (total m : ℕ) (all : total ≡ m) where
+  pub full-end : (t : List ℕ) (r : ℕ) (y heads′ nexts′ : List ℕ) → t ≡ f v → length t ≡ 9 → Adds x n t r y heads′ nexts′ → v < total → tilesIn d < r
       → Gathered f m d (Refused ROOM) y
-  full-end t r y here nine told h g =
-      let w = kept-full f d v n x k t r y here nine told m (omega arith) g in
+  full-end t r y heads′ nexts′ here nine told h g =
+      let w = kept-full f d v n x heads nexts k t r y heads′ nexts′ here nine told m (omega arith) g in
       record { answered = room-answer (distinct m f) d (w .0); leaves = w .1 }
 
   pub done-end : v ≤ total → total ≤ v → Gathered f m d (Tiles n) x
   done-end h g =
       let e : v ≡ m = omega arith in
-      let w : Kept f d m n x = rw e at k in
+      let w : Kept f d m n x heads nexts = rw e at k in
       record { answered = tiles-answer (distinct m f) d n (w .whole) (w .fitted); leaves = w .stored }

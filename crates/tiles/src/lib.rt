@@ -1,45 +1,17 @@
 // The text's spatial/tiles.rs: every distinct 3x3 tile of a sample, in order of first appearance, into a store that the caller lends.
 ghost use mathlib.Core.Path.{_≡_};
-ghost use mathlib.Core.Bool.{true};
 ghost use Prim.Native.Nat.{_+_, _*_, _/_, _<_, _≤_};
 ghost use lib.ListN.{length, take};
 ghost use lib.Seq.{paste};
 ghost use Rattle.base.specs.Refusal.{refusal, accepted, Gives};
+ghost use Rattle.rules.specs.Bounds.{maxTiles};
 ghost use Rattle.rules.specs.Answers.{tileAnswer};
 ghost use Rattle.rules.specs.Tests.{tilesIn};
-ghost use Rattle.rules.specs.Tiles.{sameTile, hasTile, withTile, storeWith, extracted, sampleChecks, roomCheck, extraction, storeAfter};
+ghost use Rattle.rules.specs.Tiles.{storeWith, extracted, sampleChecks, roomCheck, extraction, storeAfter};
 ghost use Rattle.forms.specs.Sample.{Sample};
+ghost use Rattle.seen.specs.Chains.{Chained};
+ghost use Rattle.tiles.specs.Adding.{Adds};
 use rules::TileNumber;
-
-// Tile n of a list equals a tile. The comparison leaves at the first cell that differs.
-fn same_tile(tiles: &[u8], n: usize, tile: &[u8; 9]) -> bool
-    requires { ⌜ n < tilesIn (now tiles) ⌝ }
-    ensures { λ r. ⌜ r ≡ sameTile (now (tiles .entry)) (now (tile .entry)) n ⌝ }
-{
-    let at = n * 9;
-    let mut k = 0;
-    while k < 9 {
-        if tiles[at + k] != tile[k] {
-            return false;
-        }
-        k += 1;
-    }
-    true
-}
-
-fn has_tile(tiles: &[u8], tile: &[u8; 9]) -> bool
-    ensures { λ r. ⌜ r ≡ hasTile (now (tiles .entry)) (now (tile .entry)) ⌝ }
-{
-    let all = tiles.len() / 9;
-    let mut n = 0;
-    while n < all {
-        if same_tile(tiles, n, tile) {
-            return true;
-        }
-        n += 1;
-    }
-    false
-}
 
 fn put_tile(store: &mut [u8], at: usize, tile: &[u8; 9])
     requires { ⌜ (at + 9 ≤ length (now store)) × (length (now tile) ≡ 9) ⌝ }
@@ -54,18 +26,26 @@ fn put_tile(store: &mut [u8], at: usize, tile: &[u8; 9])
 
 // Adds a tile to the n tiles of the store, unless they have it or there is no room for it whole. Answers how many there are then to be
 // kept: one more than fit, where there is no room.
-fn add_tile(store: &mut [u8], n: usize, tile: &[u8; 9]) -> usize
-    requires { ⌜ (n ≤ tilesIn (now store)) × (length (now tile) ≡ 9) ⌝ }
-    ensures { λ r. ⌜ (r ≡ tilesIn (withTile (take (n * 9) (now (store .entry))) (now (tile .entry)))) × (now (store .exit) ≡ storeWith (withTile (take (n * 9) (now (store .entry))) (now (tile .entry))) (now (store .entry))) ⌝ }
+fn add_tile(
+    store: &mut [u8],
+    heads: &mut [u16; 4096],
+    nexts: &mut [u16; 7200],
+    n: usize,
+    tile: &[u8; 9],
+) -> usize
+    requires { ⌜ (n ≤ tilesIn (now store)) × (n < maxTiles) × (length (now tile) ≡ 9) × Chained (take (n * 9) (now store)) (now heads) (now nexts) ⌝ }
+    ensures { λ r. ⌜ Adds (now (store .entry)) n (now (tile .entry)) r (now (store .exit)) (now (heads .exit)) (now (nexts .exit)) ⌝ }
 {
     let at = n * 9;
-    if has_tile(&store[..at], tile) {
+    let bucket = seen::bucket_of(tile);
+    if seen::has_tile(&store[..at], heads, nexts, tile, bucket) {
         return n;
     }
     if store.len() - at < 9 {
         return n + 1;
     }
     put_tile(store, at, tile);
+    seen::note_tile(heads, nexts, n, bucket);
     n + 1
 }
 
@@ -83,11 +63,13 @@ fn gather(
 {
     let total = forms::variants_of(rows, cols, rotations, reflections);
     let room = store.len() / 9;
+    let mut heads = [0u16; 4096];
+    let mut nexts = [0u16; 7200];
     let mut n = 0;
     let mut v = 0;
     while v < total {
         let tile = forms::variant_of(source, rows, cols, rotations, reflections, v);
-        let kept = add_tile(store, n, &tile);
+        let kept = add_tile(store, &mut heads, &mut nexts, n, &tile);
         if room < kept {
             return TileNumber::Refused(rules::ROOM);
         }

@@ -1,22 +1,31 @@
 -- `fit::fit_count` meets its contract. The loop's invariant: the count is that of the tiles passed. Assumes nothing.
 use Prim.Native.Nat.{ℕ, _+_, _-_, _/_, _≤_}
-use mathlib.Core.Path.{_≡_}
+use mathlib.Core.Path.{_≡_, sym, _∙_}
 use native.Mathlib.Omega.{arith}
 use lib.ListN.{length, getD}
 use mathlib.Core.Bool.{Bool}
 use Rattle.base.specs.Counting.{tally}
 use Rattle.base.proofs.Counted.{tally-le}
 use Rattle.rules.specs.Fit.{fitsTile, fitCount}
-use Rattle.fit.proofs.Windows.{tally-turn, tally-done}
+use Rattle.fit.proofs.Windows.{bare-fits, tally-turn, tally-done}
 use borrow.Author.Needs.{needs}
 use Rattle.fit.proofs.fit_count.Statement.{statement}
 use Rattle.fit.proofs.fit_count.Tie as tie
 
 abbrev Inv-loop : tie.InvT-loop
-Inv-loop tiles window last count₀ n₀ count n = (n ≤ length tiles / 9) × (count ≡ tally n (fitsTile tiles (λ i. getD window i 0)))
+Inv-loop tiles window mask last count₀ n₀ count n = (n ≤ length tiles / 9) × (count ≡ tally n (fitsTile tiles (λ i. getD window i 0)))
 
 abbrev μ-loop : tie.MeasureT-loop
-μ-loop tiles window last count₀ n₀ count n = length tiles / 9 - n
+μ-loop tiles window mask last count₀ n₀ count n = length tiles / 9 - n
+
+is-bare-requires : tie.Need-is-bare-requires Inv-loop μ-loop
+is-bare-requires c κs = search needs
+
+cast-result : tie.Need-cast-result Inv-loop μ-loop
+cast-result c = search needs
+
+returns : tie.Need-returns Inv-loop μ-loop
+returns c = bare-fits (c .before .before .before .args .tiles .now) (λ i. getD (c .before .before .before .args .window .now) i 0) (sym (c .before .is-bare .ensures) ∙ c .if1 .taken)
 
 loop-holds : tie.Need-loop-holds Inv-loop μ-loop
 unfolding tally
@@ -29,7 +38,7 @@ one-if-requires : tie.Need-one-if-requires Inv-loop μ-loop
 one-if-requires c κs = search needs
 
 add-count : tie.Need-add-count Inv-loop μ-loop
-add-count c = let a = c .before .before .before .before .before .args in
+add-count c = let a = c .before .before .before .before .before .before .before .args in
     let l = c .before .before .before .loop in
     let f : ℕ → Bool = fitsTile (a .tiles .now) (λ i. getD (a .window .now) i 0) in
     let t : l .count + c .one-if .result ≡ tally (l .n + 1) f = tally-turn f (l .inv .1) (c .before .tile-fits .ensures) (c .one-if .ensures) in
@@ -42,13 +51,13 @@ loop-less : tie.Need-loop-less Inv-loop μ-loop
 loop-less c = search needs
 
 loop-again : tie.Need-loop-again Inv-loop μ-loop
-loop-again c = let a = c .before .before .before .before .before .args in
+loop-again c = let a = c .before .before .before .before .before .before .before .args in
     let l = c .before .before .before .loop in
     (search needs, tally-turn (fitsTile (a .tiles .now) (λ i. getD (a .window .now) i 0)) (l .inv .1) (c .before .tile-fits .ensures) (c .one-if .ensures))
 
-returns : tie.Need-returns Inv-loop μ-loop
+returns-2 : tie.Need-returns-2 Inv-loop μ-loop
 unfolding fitCount
-returns c = tally-done _ (c .before .loop .inv .0) (c .loop-test .left) (c .before .loop .inv .1)
+returns-2 c = tally-done _ (c .before .loop .inv .0) (c .loop-test .left) (c .before .loop .inv .1)
 
 pub fit-count-spec : {M : Type 1} → statement M
 fit-count-spec =
@@ -56,6 +65,9 @@ fit-count-spec =
     (tie.spec
     Inv-loop
     μ-loop
+    is-bare-requires
+    cast-result
+    returns
     loop-holds
     tile-fits-requires
     one-if-requires
@@ -63,4 +75,4 @@ fit-count-spec =
     add-n
     loop-less
     loop-again
-    returns)
+    returns-2)

@@ -1,73 +1,55 @@
--- `fit::tile_fits` meets its contract. The loop's invariant: the places passed agree. Assumes nothing.
-use Prim.Native.Nat.{_-_, _≤_}
-use mathlib.Core.Path.{_≡_, sym}
+-- `fit::tile_fits` meets its contract: eight cells read as one number, and the ninth, compare as the fit test does. Assumes nothing.
+use Prim.Native.Nat.{_+_, _*_}
+use mathlib.Core.Path.{_≡_, _∙_}
+use native.Mathlib.Omega.{arith}
 use lib.ListN.{getD}
-use mathlib.Core.Bool.{true}
-use Rattle.base.specs.Counting.{every}
-use Rattle.base.proofs.Bools.{fails, passes}
-use Rattle.base.proofs.Counted.{every-stop, every-next, every-done}
-use Rattle.rules.specs.Fit.{agreesAt, fitsTile}
+use Rattle.fit.specs.Words.{word}
+use Rattle.fit.proofs.Words.{from-first, masked-fits}
 use borrow.Author.Needs.{needs}
 use Rattle.fit.proofs.tile_fits.Statement.{statement}
 use Rattle.fit.proofs.tile_fits.Tie as tie
 
-abbrev Inv-loop : tie.InvT-loop
-Inv-loop tiles n window at i₀ i = (i ≤ 9) × (every i (agreesAt tiles (λ j. getD window j 0) n) ≡ true)
-
-abbrev μ-loop : tie.MeasureT-loop
-μ-loop tiles n window at i₀ i = 9 - i
-
-mul-at : tie.Need-mul-at Inv-loop μ-loop
+mul-at : tie.Need-mul-at
 mul-at c = search needs
 
-loop-holds : tie.Need-loop-holds Inv-loop μ-loop
-unfolding every
-loop-holds c = search needs
+eight-requires : tie.Need-eight-requires
+eight-requires c κs = search needs
 
-element-copy-out-agree : tie.Need-element-copy-out-agree Inv-loop μ-loop
-element-copy-out-agree c = search needs
+eight-requires-2 : tie.Need-eight-requires-2
+eight-requires-2 c κs = search needs
 
-add-agree : tie.Need-add-agree Inv-loop μ-loop
-add-agree c = search needs
+eight-requires-3 : tie.Need-eight-requires-3
+eight-requires-3 c κs = search needs
 
-shared-slice-read-agree : tie.Need-shared-slice-read-agree Inv-loop μ-loop
-shared-slice-read-agree c = search needs
+add-last : tie.Need-add-last
+add-last c = search needs
 
-agree-requires : tie.Need-agree-requires Inv-loop μ-loop
-agree-requires c κs = search needs
+shared-slice-read-last : tie.Need-shared-slice-read-last
+shared-slice-read-last c = search needs
 
-returns : tie.Need-returns Inv-loop μ-loop
-unfolding fitsTile
-returns c = every-stop _ (c .before .before .before .before .loop-test .taken) (fails _ (c .before .agree .ensures) (c .if1 .taken))
+element-copy-out-last : tie.Need-element-copy-out-last
+element-copy-out-last c = search needs
 
-add-i : tie.Need-add-i Inv-loop μ-loop
-add-i c = search needs
+element-copy-out-last-2 : tie.Need-element-copy-out-last-2
+element-copy-out-last-2 c = search needs
 
-loop-less : tie.Need-loop-less Inv-loop μ-loop
-loop-less c = search needs
-
-loop-again : tie.Need-loop-again Inv-loop μ-loop
-loop-again c = let a = c .before .before .before .before .before .before .before .args in
-    (search needs, every-next (agreesAt (a .tiles .now) (λ i. getD (a .window .now) i 0) (a .n)) (c .before .before .before .before .before .loop .inv .1) (passes _ (c .before .agree .ensures) (c .if1 .left)))
-
-returns-2 : tie.Need-returns-2 Inv-loop μ-loop
-unfolding fitsTile
-returns-2 c = every-done _ (c .before .loop .inv .0) (c .loop-test .left) (sym (c .before .loop .inv .1))
+returns : tie.Need-returns
+returns c = let a = c .before .before .before .before .before .before .before .before .before .args in
+    let p : c .before .before .before .before .before .before .before .eight .result ≡ word 8 (λ i. getD (a .tiles .now) (a .n * 9 + i) 0) = c .before .before .before .before .before .before .before .eight .ensures in
+    let q : c .before .before .before .before .before .eight2 .result ≡ word 8 (λ i. getD (a .mask .now) i 0) = c .before .before .before .before .before .eight2 .ensures ∙ from-first 8 (a .mask .now) in
+    let r : c .before .before .before .eight3 .result ≡ word 8 (λ i. getD (a .window .now) i 0) = c .before .before .before .eight3 .ensures ∙ from-first 8 (a .window .now) in
+    rw (p, q, r) (masked-fits (a .tiles .now) (a .window .now) (a .mask .now) (a .n) (c .before .before .before .before .before .before .before .before .before .pre .1) (λ i. omega (arith, c .before .before .before .before .before .before .before .before .shared-slice-known .given i)))
 
 pub tile-fits-spec : {M : Type 1} → statement M
 tile-fits-spec =
     tie.close
     (tie.spec
-    Inv-loop
-    μ-loop
     mul-at
-    loop-holds
-    element-copy-out-agree
-    add-agree
-    shared-slice-read-agree
-    agree-requires
-    returns
-    add-i
-    loop-less
-    loop-again
-    returns-2)
+    eight-requires
+    eight-requires-2
+    eight-requires-3
+    add-last
+    shared-slice-read-last
+    element-copy-out-last
+    element-copy-out-last-2
+    returns)

@@ -5,7 +5,7 @@ use mathlib.Core.Bool.{true}
 use Rattle.base.proofs.Bools.{fails, passes}
 use Rattle.rules.specs.declared.Cell.{Cell}
 use Rattle.places.proofs.Indices.{row-below, col-below}
-use Rattle.forced.proofs.Beside.{not-admitted, off-board, on-board}
+use Rattle.forced.proofs.Alone.{not-admitted, off-board, on-board}
 use borrow.Author.Needs.{needs}
 use Rattle.forced.proofs.forced_colour.Statement.{statement}
 use Rattle.forced.proofs.forced_colour.Tie as tie

@@ -1,9 +1,10 @@
 -- `forced::forced_refused` meets its contract: the checks of the pieces and tiles, then of the place, then of the box. Assumes nothing.
 use mathlib.Core.Path.{refl}
-use Rattle.base.proofs.Chain.{_then_, numbered, stopped, went-on, refuse, pass, no-check}
 use Rattle.base.specs.Refusal.{accepted}
-use Rattle.rules.specs.Fit.{piecesChecks, placeChecks}
-use Rattle.forced.specs.Round.{afterPieces, afterPlace}
+use Rattle.base.proofs.Chain.{_then_, numbered, stopped, went-on, refuse, pass, no-check}
+use Rattle.rules.specs.Fit.{placeChecks}
+use Rattle.fit.proofs.Accepted.{pieces-stop, pieces-go}
+use Rattle.forced.specs.Round.{afterPlace}
 use borrow.Author.Needs.{needs}
 use Rattle.forced.proofs.forced_refused.Statement.{statement}
 use Rattle.forced.proofs.forced_refused.Tie as tie
@@ -12,22 +13,17 @@ pieces-refused-requires : tie.Need-pieces-refused-requires
 pieces-refused-requires c κs = search needs
 
 returns : tie.Need-returns
-unfolding _then_
-returns c =
-    let a = c .before .before .before .before .args in
-    stopped _ (piecesChecks (a .pieces .now) (a .rows) (a .cols) (a .tiles .now) (a .count) accepted) (afterPieces (a .rows) (a .cols) (a .position) (a .offset) (a .bounds))
-    (c .before .pieces-refused .ensures) (c .if1 .taken)
+returns c = pieces-stop _ _ _ _ _ _ _ (c .before .pieces-refused .ensures) (c .if1 .taken)
 
 place-refused-requires : tie.Need-place-refused-requires
 place-refused-requires c κs = search needs
 
 returns-2 : tie.Need-returns-2
-unfolding _then_ numbered
+unfolding _then_
 returns-2 c =
     let d = c .before .before in
     let a = d .before .before .before .before .args in
-    went-on (piecesChecks (a .pieces .now) (a .rows) (a .cols) (a .tiles .now) (a .count) accepted) (afterPieces (a .rows) (a .cols) (a .position) (a .offset) (a .bounds)) refl
-    (d .before .pieces-refused .ensures) (d .if1 .left)
+    pieces-go _ _ _ _ _ _ (d .before .pieces-refused .ensures) (d .if1 .left)
     (stopped _ (placeChecks (a .rows) (a .cols) (a .position) (a .offset) accepted) (afterPlace (a .bounds)) (c .before .place-refused .ensures) (c .if2 .taken))
 
 bounds-fit-requires : tie.Need-bounds-fit-requires
@@ -39,8 +35,7 @@ returns-3 c =
     let e = c .before .before in
     let d = e .before .before in
     let a = d .before .before .before .before .args in
-    went-on (piecesChecks (a .pieces .now) (a .rows) (a .cols) (a .tiles .now) (a .count) accepted) (afterPieces (a .rows) (a .cols) (a .position) (a .offset) (a .bounds)) refl
-    (d .before .pieces-refused .ensures) (d .if1 .left)
+    pieces-go _ _ _ _ _ _ (d .before .pieces-refused .ensures) (d .if1 .left)
     (went-on (placeChecks (a .rows) (a .cols) (a .position) (a .offset) accepted) (afterPlace (a .bounds)) refl (e .before .place-refused .ensures) (e .if2 .left)
     (refuse _ _ (c .before .bounds-fit .ensures) (c .if3 .taken)))
 
@@ -50,8 +45,7 @@ returns-4 c =
     let e = c .before .before in
     let d = e .before .before in
     let a = d .before .before .before .before .args in
-    went-on (piecesChecks (a .pieces .now) (a .rows) (a .cols) (a .tiles .now) (a .count) accepted) (afterPieces (a .rows) (a .cols) (a .position) (a .offset) (a .bounds)) refl
-    (d .before .pieces-refused .ensures) (d .if1 .left)
+    pieces-go _ _ _ _ _ _ (d .before .pieces-refused .ensures) (d .if1 .left)
     (went-on (placeChecks (a .rows) (a .cols) (a .position) (a .offset) accepted) (afterPlace (a .bounds)) refl (e .before .place-refused .ensures) (e .if2 .left)
     (pass _ _ _ (c .before .bounds-fit .ensures) (c .if3 .left) no-check))
 

@@ -1,59 +1,44 @@
--- `forced::neighbour_at` meets its contract: the sums fit 32 bits, since the place is on the wall, and stand for the definition's.
--- Assumes nothing.
-use Prim.Native.Nat.{ℕ, _+_, _-_, _*_, _/_, _%_, _<_}
-use mathlib.Core.Path.{_≡_}
+-- `forced::neighbour_at` meets its contract: the step along each side. Assumes nothing.
+use Prim.Native.Nat.{ℕ}
+use mathlib.Core.Path.{_≡_, _∙_, ap}
+use mathlib.Core.Bool.{true}
 use native.Mathlib.Omega.{arith}
 use lib.IntN.{ℤ, pos, _+ℤ_, _-ℤ_}
-use mir.Syntax.{w32}
-use mir.Val.{ofZ}
-use Rattle.base.proofs.Signs.{Reads, tested, nat-is, one-is, add-fits, sub-fits, added, subbed, addB}
+use Rattle.base.specs.Whole.{withinZ}
+use Rattle.base.proofs.Bools.{and-left, and-right}
+use Rattle.rules.specs.Bounds.{minCoordinate, maxCoordinate}
+use Rattle.rules.specs.Tests.{onWall}
 use Rattle.rules.specs.Forced.{neighbour}
 use Rattle.rules.specs.declared.World.{World}
-use Rattle.places.proofs.Indices.{wall-low}
-use borrow.Author.Needs.{needs}
+use Rattle.places.proofs.Wide.{same}
 use Rattle.forced.proofs.neighbour_at.Statement.{statement}
 use Rattle.forced.proofs.neighbour_at.Tie as tie
 
--- the numbers that are added, as the code has them
-module _ (c : tie.Start) where
-  row-is : Reads (ofZ w32 (c .args .w .0)) (c .args .w .0) 1000001
-  row-is = tested (wall-low (c .args .w) (c .pre .0) .0) tt
-
-  col-is : Reads (ofZ w32 (c .args .w .1)) (c .args .w .1) 1000001
-  col-is = tested (wall-low (c .args .w) (c .pre .0) .1) tt
-
-  down-is : Reads (c .args .d / 3) (pos (c .args .d / 3)) 3
-  down-is = nat-is (omega (arith, c .pre .1)) tt
-
-  across-is : Reads (c .args .d % 3) (pos (c .args .d % 3)) 3
-  across-is = nat-is (omega arith) tt
+both-on : (w : World) → onWall w ≡ true → (withinZ minCoordinate maxCoordinate (w .0) ≡ true) × (withinZ minCoordinate maxCoordinate (w .1) ≡ true)
+unfolding onWall
+both-on w e = let f = withinZ minCoordinate maxCoordinate in (and-left (f (w .0)) (f (w .1)) e, and-right (f (w .0)) (f (w .1)) e)
 
 both : {a b x y : ℤ} → a ≡ x → b ≡ y → _≡_ {A = World} (record { 0 = a; 1 = b }) (record { 0 = x; 1 = y })
 both p q = rw (p, q)
 
-cast-down : tie.Need-cast-down
-cast-down c = search needs
+beside-requires : tie.Need-beside-requires
+beside-requires c κs =
+    let w = c .before .args .w in
+    (rw (same {z = w .0} (c .struct-told .given .0 .1)) (both-on w (c .before .pre .0) .0), omega (arith, c .before .pre .1))
 
-cast-across : tie.Need-cast-across
-cast-across c = search needs
-
-add-t6 : tie.Need-add-t6
-add-t6 c = let s = c .before .before in add-fits (row-is s) (down-is s) tt
-
-sub-t7 : tie.Need-sub-t7
-sub-t7 c = let s = c .before .before in sub-fits (added (row-is s) (down-is s) tt) one-is tt
-
-add-t8 : tie.Need-add-t8
-add-t8 c = let s = c .before .before .before .before in add-fits (col-is s) (across-is s) tt
-
-sub-t9 : tie.Need-sub-t9
-sub-t9 c = let s = c .before .before .before .before in sub-fits (added (col-is s) (across-is s) tt) one-is tt
+beside-requires-2 : tie.Need-beside-requires-2
+beside-requires-2 c κs =
+    let d = c .before .before .before in
+    let w = d .args .w in
+    (rw (same {z = w .1} (c .struct-told2 .given .1 .0 .1)) (both-on w (d .pre .0) .1), omega (arith, d .pre .1))
 
 returns : tie.Need-returns
 unfolding neighbour
 returns c =
-    let s = c .before .before .before .before in
-    both (subbed (added (row-is s) (down-is s) tt) one-is tt .is) (subbed (added (col-is s) (across-is s) tt) one-is tt .is)
+    let w = c .before .before .before .before .args .w in
+    both
+    (same {z = c .before .before .beside .result} (c .before .before .beside .ok) ∙ rw (same {z = w .0} (c .before .before .before .struct-told .given .0 .1)) at (c .before .before .beside .ensures))
+    (same {z = c .beside2 .result} (c .beside2 .ok) ∙ rw (same {z = w .1} (c .before .struct-told2 .given .1 .0 .1)) at (c .beside2 .ensures))
 
 pub neighbour-at-spec : {M : Type 1} → statement M
-neighbour-at-spec = tie.close (tie.spec cast-down cast-across add-t6 sub-t7 add-t8 sub-t9 returns)
+neighbour-at-spec = tie.close (tie.spec beside-requires beside-requires-2 returns)

@@ -4,37 +4,23 @@ use mathlib.Core.Path.{_≡_, sym, _∙_}
 use native.Mathlib.Omega.{arith}
 use borrow.Author.Tests.{lt-ltb, le-ltb}
 use Rattle.base.proofs.Bools.{pick-yes, pick-no}
-use Rattle.base.proofs.Numbers.{cell-lt, mul-le}
 use Rattle.rules.specs.Forced.{only}
-use Rattle.rules.specs.declared.TileBitset.{TileBitset}
-use Rattle.rules.specs.declared.Listing.the-variants.{Colours}
-use Rattle.forced.proofs.Beside.{listed-set}
+use Rattle.forced.proofs.Listed.{cell-inside, listing-says}
 use borrow.Author.Needs.{needs}
 use Rattle.forced.proofs.only_colour_at.Statement.{statement}
 use Rattle.forced.proofs.only_colour_at.Tie as tie
 
--- the cell's number is that of a cell, of which there are few
-inside : (c : tie.Start)
-    → let a = c .args in
-    (a .cell .0 * a .cols + a .cell .1 < a .rows * a .cols) × (a .rows * a .cols ≤ 4096)
-inside c =
-    let b = c .pre .0 .tried .board in
-    (cell-lt (c .pre .1 .down) (c .pre .1 .across), mul-le (b .tall) (b .wide))
-
-same-set : (s u : TileBitset) → Colours s ≡ Colours u → s ≡ u
-same-set s u e = cc
-
 mul-at : tie.Need-mul-at
-mul-at c = let k = inside (c .before .before .before) in record { fits = omega arith }
+mul-at c = let d = c .before .before .before in let k = cell-inside _ _ _ _ _ _ _ (d .pre .0) (d .pre .1) in record { fits = omega arith }
 
 add-at : tie.Need-add-at
-add-at c = let k = inside (c .before .before .before .before) in record { fits = omega arith }
+add-at c = let d = c .before .before .before .before in let k = cell-inside _ _ _ _ _ _ _ (d .pre .0) (d .pre .1) in record { fits = omega arith }
 
 mul-if1 : tie.Need-mul-if1
-mul-if1 c = let k = inside (c .before .before .before .before) in record { fits = omega arith }
+mul-if1 c = let d = c .before .before .before .before in let k = cell-inside _ _ _ _ _ _ _ (d .pre .0) (d .pre .1) in record { fits = omega arith }
 
 shared-slice-read-if1 : tie.Need-shared-slice-read-if1
-shared-slice-read-if1 c = let k = inside (c .before .before .before .before .before) in omega (arith, c .before .before .before .before .before .pre .0 .tried .board .plane)
+shared-slice-read-if1 c = let d = c .before .before .before .before .before in let k = cell-inside _ _ _ _ _ _ _ (d .pre .0) (d .pre .1) in omega (arith, c .before .before .before .before .before .pre .0 .tried .board .plane)
 
 returns : tie.Need-returns
 returns c = sym (pick-yes _ _ _ (lt-ltb 1 _ (c .if1 .taken)))
@@ -56,8 +42,7 @@ only-colour-requires c κs = search needs
 
 returns-3 : tie.Need-returns-3
 returns-3 c =
-    let s = same-set _ _ (sym (c .before .before .set .given .1) ∙ c .before .before .before .before .viable-tiles-at .ensures) in
-    listed-set only _ _ _ s (c .only-colour .ensures) ∙ sym (pick-no _ _ _ (le-ltb 1 _ (c .before .before .before .before .before .if1 .left)))
+    listing-says only _ _ _ _ (c .before .before .set .given .1) (c .before .before .before .before .viable-tiles-at .ensures) (c .only-colour .ensures) ∙ sym (pick-no _ _ _ (le-ltb 1 _ (c .before .before .before .before .before .if1 .left)))
 
 pub only-colour-at-spec : {M : Type 1} → statement M
 only-colour-at-spec =

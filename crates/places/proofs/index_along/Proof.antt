@@ -2,17 +2,16 @@
 -- Assumes nothing.
 use borrow.Author.Needs.{needs}
 use mathlib.Core.Path.{_∙_, ap}
-use mir.Facts.{toZ-ofZ, sfits-widen}
 use Rattle.base.specs.Whole.{clip}
-use Rattle.places.proofs.Wide.{widened, add-fits, added}
+use Rattle.places.proofs.Wide.{widened, cast-fits, add-fits, added}
 use Rattle.places.proofs.index_along.Statement.{statement}
 use Rattle.places.proofs.index_along.Tie as tie
 
 cast-clip-to : tie.Need-cast-clip-to
-cast-clip-to c = rw (toZ-ofZ (c .fits .coordinate)) (sfits-widen tt (c .fits .coordinate))
+cast-clip-to c = cast-fits (c .fits .coordinate)
 
 cast-clip-to-2 : tie.Need-cast-clip-to-2
-cast-clip-to-2 c = rw (toZ-ofZ (c .fits .offset)) (sfits-widen tt (c .fits .offset))
+cast-clip-to-2 c = cast-fits (c .fits .offset)
 
 add-clip-to : tie.Need-add-clip-to
 add-clip-to c = add-fits (widened (c .fits .coordinate)) (widened (c .fits .offset)) tt

@@ -2,17 +2,16 @@
 -- Assumes nothing.
 use borrow.Author.Needs.{needs}
 use mathlib.Core.Path.{_∙_, ap}
-use mir.Facts.{toZ-ofZ, sfits-widen}
 use Rattle.base.specs.Whole.{indexBelow}
-use Rattle.places.proofs.Wide.{widened, add-fits, added}
+use Rattle.places.proofs.Wide.{widened, cast-fits, add-fits, added}
 use Rattle.places.proofs.on_side.Statement.{statement}
 use Rattle.places.proofs.on_side.Tie as tie
 
 cast-index-below : tie.Need-cast-index-below
-cast-index-below c = rw (toZ-ofZ (c .fits .coordinate)) (sfits-widen tt (c .fits .coordinate))
+cast-index-below c = cast-fits (c .fits .coordinate)
 
 cast-index-below-2 : tie.Need-cast-index-below-2
-cast-index-below-2 c = rw (toZ-ofZ (c .fits .offset)) (sfits-widen tt (c .fits .offset))
+cast-index-below-2 c = cast-fits (c .fits .offset)
 
 add-index-below : tie.Need-add-index-below
 add-index-below c = add-fits (widened (c .fits .coordinate)) (widened (c .fits .offset)) tt

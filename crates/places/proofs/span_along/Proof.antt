@@ -1,23 +1,17 @@
 -- `places::span_along` meets its contract: each sum fits 64 bits, and stands for the definition's.
 -- Assumes nothing.
 use borrow.Author.Needs.{needs}
-use Prim.Native.Nat.{ℕ, _+_, _<_, _^_}
+use Prim.Native.Nat.{ℕ, _^_}
 use native.Mathlib.Omega.{arith}
 use mathlib.Core.Path.{_≡_, _∙_, ap}
-use lib.IntN.{ℤ, pos, _+ℤ_, _-ℤ_}
-use mir.Syntax.{w32, w64}
-use mir.Val.{ofZ, toZ}
-use mir.Facts.{toZ-ofZ, sfits-widen}
+use lib.IntN.{pos, _+ℤ_}
+use mir.Syntax.{w64}
 use Rattle.base.specs.Whole.{clip}
 use Rattle.rules.specs.Places.{spanOf}
 use Rattle.rules.specs.declared.Span.{Span}
-use Rattle.places.proofs.Wide.{Reads, widened, counted, add-fits, sub-fits, added, subbed, addB}
+use Rattle.places.proofs.Wide.{Reads, wide, widened, cast-fits, counted, add-fits, sub-fits, added, subbed, addB}
 use Rattle.places.proofs.span_along.Statement.{statement}
 use Rattle.places.proofs.span_along.Tie as tie
-
--- the bits of a number of 32 bits after its cast to 64
-abbrev wide : ℤ → ℕ
-wide z = ofZ w64 (toZ w32 (ofZ w32 z))
 
 module _ (c : tie.Start) where
   index-is : Reads w64 (addB w64 (wide (c .args .coordinate)) (wide (c .args .offset))) (c .args .coordinate +ℤ c .args .offset) (2 ^ 32)
@@ -30,10 +24,10 @@ module _ (c : tie.Start) where
   one-is = counted w64 (omega arith) tt
 
 cast-index : tie.Need-cast-index
-cast-index c = rw (toZ-ofZ (c .fits .coordinate)) (sfits-widen tt (c .fits .coordinate))
+cast-index c = cast-fits (c .fits .coordinate)
 
 cast-index-2 : tie.Need-cast-index-2
-cast-index-2 c = rw (toZ-ofZ (c .fits .offset)) (sfits-widen tt (c .fits .offset))
+cast-index-2 c = cast-fits (c .fits .offset)
 
 add-index : tie.Need-add-index
 add-index c = add-fits (widened (c .fits .coordinate)) (widened (c .fits .offset)) tt

@@ -6,45 +6,32 @@ use native.Mathlib.Omega.{arith}
 use mathlib.Core.List.{List}
 use lib.Dec.{eqb}
 use lib.ListN.{length}
-use Rattle.base.proofs.Numbers.{cell-lt, mul-le}
-use Rattle.rules.specs.declared.TileBitset.{TileBitset}
-use Rattle.rules.specs.declared.Listing.the-variants.{Colours}
-use Rattle.scan.proofs.Search.{listed-set, dead-laid, dead-light, dead-listed}
+use Rattle.forced.proofs.Listed.{cell-inside, listing-says}
+use Rattle.scan.proofs.Search.{dead-laid, dead-light, dead-listed}
 use borrow.Author.Needs.{needs}
 use Rattle.scan.proofs.is_dead_end.Statement.{statement}
 use Rattle.scan.proofs.is_dead_end.Tie as tie
 
--- the cell's number is that of a cell, of which there are few
-inside : (c : tie.Start)
-    → let a = c .args in
-    (a .cell .0 * a .cols + a .cell .1 < a .rows * a .cols) × (a .rows * a .cols ≤ 4096)
-inside c =
-    let b = c .pre .0 .ready .tried .board in
-    (cell-lt (c .pre .1 .down) (c .pre .1 .across), mul-le (b .tall) (b .wide))
-
-same-set : (s u : TileBitset) → Colours s ≡ Colours u → s ≡ u
-same-set s u e = cc
-
 mul-at : tie.Need-mul-at
-mul-at c = let k = inside (c .before .before .before .before) in record { fits = omega arith }
+mul-at c = let d = c .before .before .before .before in let k = cell-inside _ _ _ _ _ _ _ (d .pre .0 .ready) (d .pre .1) in record { fits = omega arith }
 
 add-at : tie.Need-add-at
-add-at c = let k = inside (c .before .before .before .before .before) in record { fits = omega arith }
+add-at c = let d = c .before .before .before .before .before in let k = cell-inside _ _ _ _ _ _ _ (d .pre .0 .ready) (d .pre .1) in record { fits = omega arith }
 
 mul-if1 : tie.Need-mul-if1
-mul-if1 c = let k = inside (c .before .before .before .before .before) in record { fits = omega arith }
+mul-if1 c = let d = c .before .before .before .before .before in let k = cell-inside _ _ _ _ _ _ _ (d .pre .0 .ready) (d .pre .1) in record { fits = omega arith }
 
 shared-slice-read-if1 : tie.Need-shared-slice-read-if1
-shared-slice-read-if1 c = let k = inside (c .before .before .before .before .before .before) in omega (arith, c .before .before .before .before .before .before .pre .0 .ready .tried .board .plane)
+shared-slice-read-if1 c = let d = c .before .before .before .before .before .before in let k = cell-inside _ _ _ _ _ _ _ (d .pre .0 .ready) (d .pre .1) in omega (arith, c .before .before .before .before .before .before .pre .0 .ready .tried .board .plane)
 
 returns : tie.Need-returns
 returns c = dead-laid _ _ _ _ _ _ (c .if1 .taken)
 
 mul-if2 : tie.Need-mul-if2
-mul-if2 c = let k = inside (c .before .before .before .before .before .before .before) in record { fits = omega arith }
+mul-if2 c = let d = c .before .before .before .before .before .before .before in let k = cell-inside _ _ _ _ _ _ _ (d .pre .0 .ready) (d .pre .1) in record { fits = omega arith }
 
 shared-slice-read-if2 : tie.Need-shared-slice-read-if2
-shared-slice-read-if2 c = let k = inside (c .before .before .before .before .before .before .before .before) in omega (arith, c .before .before .before .before .before .before .before .before .pre .0 .weighed)
+shared-slice-read-if2 c = let d = c .before .before .before .before .before .before .before .before in let k = cell-inside _ _ _ _ _ _ _ (d .pre .0 .ready) (d .pre .1) in omega (arith, c .before .before .before .before .before .before .before .before .pre .0 .weighed)
 
 returns-2 : tie.Need-returns-2
 returns-2 c = dead-light _ _ _ _ _ _ (c .if2 .taken)
@@ -66,9 +53,8 @@ no-colour-requires c κs = search needs
 
 returns-4 : tie.Need-returns-4
 returns-4 c =
-    let s = same-set _ _ (sym (c .before .before .set .given .1) ∙ c .before .before .before .before .viable-tiles-at .ensures) in
     dead-listed _ _ _ _ _ _ (c .before .before .before .before .before .before .before .if1 .left) (c .before .before .before .before .before .if2 .left)
-    (listed-set (λ l. eqb (length l) 0) _ _ _ s (c .no-colour .ensures))
+    (listing-says (λ l. eqb (length l) 0) _ _ _ _ (c .before .before .set .given .1) (c .before .before .before .before .viable-tiles-at .ensures) (c .no-colour .ensures))
 
 pub is-dead-end-spec : {M : Type 1} → statement M
 is-dead-end-spec =

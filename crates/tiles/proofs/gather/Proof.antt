@@ -1,20 +1,19 @@
--- `tiles::gather` meets its contract: the loop keeps the distinct tiles of the variants so far. Assumes nothing.
+-- `tiles::gather` meets its contract: the loop keeps the distinct tiles of the variants so far, and their chains. Assumes nothing.
 use Prim.Native.Nat.{_-_, _≤_}
-use mathlib.Core.Path.{_∙_, ap}
+use mathlib.Core.Path.{_∙_}
 use native.Mathlib.Omega.{arith}
-use lib.ListN.{length}
 use Rattle.rules.specs.Tiles.{variant, extracted}
-use Rattle.forms.proofs.Variants.{variant-length}
-use Rattle.tiles.proofs.Store.{Kept, kept-none, kept-on, full-end, done-end}
+use Rattle.forms.proofs.Variants.{variant-nine}
+use Rattle.tiles.proofs.Store.{Kept, kept-none, kept-chained, kept-on, full-end, done-end}
 use borrow.Author.Needs.{needs}
 use Rattle.tiles.proofs.gather.Statement.{statement}
 use Rattle.tiles.proofs.gather.Tie as tie
 
 abbrev Inv-loop : tie.InvT-loop
-Inv-loop store₀ source rows cols rotations reflections total room n₀ v₀ store n v = (v ≤ total) × Kept (variant source rows cols rotations reflections) store₀ v n store
+Inv-loop store₀ source rows cols rotations reflections total room heads₀ nexts₀ n₀ v₀ store heads nexts n v = (v ≤ total) × Kept (variant source rows cols rotations reflections) store₀ v n store heads nexts
 
 abbrev μ-loop : tie.MeasureT-loop
-μ-loop store₀ source rows cols rotations reflections total room n₀ v₀ store n v = total - v
+μ-loop store₀ source rows cols rotations reflections total room heads₀ nexts₀ n₀ v₀ store heads nexts n v = total - v
 
 variants-of-requires : tie.Need-variants-of-requires Inv-loop μ-loop
 variants-of-requires c κs = search needs
@@ -26,14 +25,15 @@ variant-of-requires : tie.Need-variant-of-requires Inv-loop μ-loop
 variant-of-requires c κs = search needs
 
 add-tile-requires : tie.Need-add-tile-requires Inv-loop μ-loop
-add-tile-requires c κs = (omega (arith, c .before .before .before .before .loop .inv .1), ap length (c .before .before .variant-of .ensures) ∙ variant-length _ _ _ _ _ _)
+add-tile-requires c κs = let k = c .before .before .before .before .before .before .loop .inv .1 in
+    (omega (arith, k .fitted, k .same), omega (arith, k .few, c .before .before .before .before .before .loop-test .taken, c .before .before .before .before .before .before .before .variants-of .ensures .1), (variant-nine _ _ _ _ _ _ _ (c .before .before .before .before .variant-of .ensures)), kept-chained _ _ _ _ _ _ _ k)
 
 same-length : tie.Need-same-length Inv-loop μ-loop
-same-length c = c .before .before .before .add-tile .kept .0 ∙ c .before .before .before .before .before .before .before .before .loop .inv .1 .same
+same-length c = c .before .before .before .add-tile .kept .0 ∙ c .before .before .before .before .before .before .before .before .before .before .loop .inv .1 .same
 
 returns : tie.Need-returns Inv-loop μ-loop
 unfolding extracted
-returns c = full-end _ _ _ _ _ (c .before .before .before .before .before .before .before .before .loop .inv .1) _ _ (c .before .before .before .before .before .before .before .before .before .variants-of .ensures .0) _ _ _ (c .before .before .before .before .before .before .variant-of .ensures) (ap length (c .before .before .before .before .before .before .variant-of .ensures) ∙ variant-length _ _ _ _ _ _) (c .before .before .before .add-tile .ensures) (c .before .before .before .before .before .before .before .loop-test .taken) (c .if1 .taken)
+returns c = full-end _ _ _ _ _ _ _ (c .before .before .before .before .before .before .before .before .before .before .loop .inv .1) _ _ (c .before .before .before .before .before .before .before .before .before .before .before .variants-of .ensures .0) _ _ _ _ _ (c .before .before .before .before .before .before .before .before .variant-of .ensures) (variant-nine _ _ _ _ _ _ _ (c .before .before .before .before .before .before .before .before .variant-of .ensures)) (c .before .before .before .add-tile .ensures) (c .before .before .before .before .before .before .before .before .before .loop-test .taken) (c .if1 .taken)
 
 add-v : tie.Need-add-v Inv-loop μ-loop
 add-v c = search needs
@@ -42,14 +42,14 @@ loop-less : tie.Need-loop-less Inv-loop μ-loop
 loop-less c = search needs
 
 loop-again : tie.Need-loop-again Inv-loop μ-loop
-loop-again c = (omega arith, kept-on _ _ _ _ _ (c .before .before .before .before .before .before .before .before .loop .inv .1) _ _ _ (c .before .before .before .before .before .before .variant-of .ensures) (ap length (c .before .before .before .before .before .before .variant-of .ensures) ∙ variant-length _ _ _ _ _ _) (c .before .before .before .add-tile .ensures) (c .if1 .left) (c .before .before .before .add-tile .kept .0 ∙ c .before .before .before .before .before .before .before .before .loop .inv .1 .same))
+loop-again c = (omega arith, kept-on _ _ _ _ _ _ _ (c .before .before .before .before .before .before .before .before .before .before .loop .inv .1) _ _ _ _ _ (c .before .before .before .before .before .before .before .before .variant-of .ensures) (variant-nine _ _ _ _ _ _ _ (c .before .before .before .before .before .before .before .before .variant-of .ensures)) (c .before .before .before .add-tile .ensures) (c .if1 .left) (c .before .before .before .add-tile .kept .0 ∙ c .before .before .before .before .before .before .before .before .before .before .loop .inv .1 .same))
 
 same-length-2 : tie.Need-same-length-2 Inv-loop μ-loop
 same-length-2 c = search needs
 
 returns-2 : tie.Need-returns-2 Inv-loop μ-loop
 unfolding extracted
-returns-2 c = done-end _ _ _ _ _ (c .before .loop .inv .1) _ _ (c .before .before .variants-of .ensures .0) (c .before .loop .inv .0) (c .loop-test .left)
+returns-2 c = done-end _ _ _ _ _ _ _ (c .before .loop .inv .1) _ _ (c .before .before .variants-of .ensures .0) (c .before .loop .inv .0) (c .loop-test .left)
 
 pub gather-spec : {M : Type 1} → statement M
 gather-spec =

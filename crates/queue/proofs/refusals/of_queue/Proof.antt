@@ -1,6 +1,5 @@
 -- `queue::refusals::of_queue` meets its contract, by the laws of a chain of checks.
 -- Assumes nothing.
-use mathlib.Core.Path.{_≡_}
 use borrow.Author.Needs.{needs}
 use borrow.Author.Tests.{le-leb, lt-leb}
 use Rattle.base.proofs.Chain.{refuse, refuse-by, pass, pass-by, no-check}

@@ -1,10 +1,9 @@
 -- `queue::refusals::queued_on_wall` meets its contract. The loop's invariant: the entries passed, and those from i on, are on the wall
 -- exactly if all are.
 -- Assumes nothing.
-use Prim.Native.Nat.{ℕ, _≤_, _-_, _+_, _<_}
-use mathlib.Core.Path.{_≡_, refl, sym, ap, _∙_}
-use mathlib.Core.Bool.{true, false, _&&_}
-use mathlib.Core.List.{List}
+use Prim.Native.Nat.{_-_}
+use mathlib.Core.Path.{_≡_, refl}
+use mathlib.Core.Bool.{_&&_}
 use native.Mathlib.Omega.{arith}
 use borrow.Author.Needs.{needs}
 use lib.ListN.{length-map, length, take, drop}
@@ -46,7 +45,8 @@ loop-again : tie.Need-loop-again Inv-loop μ-loop
 loop-again c =
     let l = c .before .before .before .before in
     let s = l .before .before in
-    wall-turn (s .args .queue .entries) _ _ noPosition (c .before .before .before .loop-test .taken) (omega (arith, long s)) (l .loop .fine) _ (c .on-wall .ensures) (l .loop .inv)
+    wall-turn (s .args .queue .entries) _ _ noPosition (c .before .before .before .loop-test .taken) (omega (arith, long s))
+    (l .loop .fine) _ (c .on-wall .ensures) (l .loop .inv)
 
 returns : tie.Need-returns Inv-loop μ-loop
 unfolding queued

@@ -30,7 +30,8 @@ add-t12 c = search needs
 returns-3 : tie.Need-returns-3
 returns-3 c =
     let d = c .before .before in
-    adds-new _ _ (d .before .before .before .pre) (sym (d .before .is-queued .ensures) ∙ d .if1 .left) (omega (arith, d .before .before .before .pre .in-room, c .before .if2 .left))
+    adds-new _ _ (d .before .before .before .pre) (sym (d .before .is-queued .ensures) ∙ d .if1 .left)
+    (omega (arith, d .before .before .before .pre .in-room, c .before .if2 .left))
 
 pub add-position-spec : {M : Type 1} → statement M
 add-position-spec =

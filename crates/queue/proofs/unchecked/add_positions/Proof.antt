@@ -1,12 +1,12 @@
 -- `queue::unchecked::add_positions` meets its contract. The loop's invariant: the queue so far is tidy, and what is still to be added to
 -- it gives what all the positions give.
 -- Assumes nothing.
-use Prim.Native.Nat.{ℕ, _≤_, _-_}
-use mathlib.Core.Path.{_≡_, sym, ap, _∙_}
+use Prim.Native.Nat.{_≤_, _-_}
+use mathlib.Core.Path.{_≡_}
 use native.Mathlib.Omega.{arith}
 use borrow.Author.Needs.{needs}
 use lib.ListN.{length-map, length}
-use Rattle.rules.specs.Bounds.{queueRoom, addedRoom}
+use Rattle.rules.specs.Bounds.{queueRoom}
 use Rattle.rules.specs.Forced.{offered, noPosition}
 use Rattle.queue.proofs.Entries.{length-queued}
 use Rattle.queue.proofs.Growth.{Grows, grows-from, grows-on, grows-too-far, grows-end}
@@ -56,7 +56,8 @@ returns c =
     let a = c .before .before in
     let l = a .before .before .before in
     let s = l .before .before .before in
-    grows-too-far (s .args .queue) (s .args .positions .entries) _ _ _ noPosition (a .before .before .loop-test .taken) (offers s) (l .loop .inv) _ (a .add-position .ensures) _ (c .enum-told2 .given .1)
+    grows-too-far (s .args .queue) (s .args .positions .entries) _ _ _ noPosition (a .before .before .loop-test .taken) (offers s)
+    (l .loop .inv) _ (a .add-position .ensures) _ (c .enum-told2 .given .1)
 
 add-i : tie.Need-add-i Inv-loop μ-loop
 add-i c = search needs
@@ -69,7 +70,8 @@ loop-again c =
     let a = c .before .before .before in
     let l = a .before .before .before in
     let s = l .before .before .before in
-    grows-on (s .args .queue) (s .args .positions .entries) _ _ _ noPosition (a .before .before .loop-test .taken) (offers s) (l .loop .inv) _ (a .add-position .ensures) (c .before .enum-told .given .1)
+    grows-on (s .args .queue) (s .args .positions .entries) _ _ _ noPosition (a .before .before .loop-test .taken) (offers s)
+    (l .loop .inv) _ (a .add-position .ensures) (c .before .enum-told .given .1)
 
 returns-2 : tie.Need-returns-2 Inv-loop μ-loop
 unfolding offered

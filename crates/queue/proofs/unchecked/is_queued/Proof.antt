@@ -1,17 +1,14 @@
 -- `queue::unchecked::is_queued` meets its contract. The loop's invariant: whether the place is among the entries from i on decides
 -- whether it is queued.
 -- Assumes nothing.
-use Prim.Native.Nat.{ℕ, _≤_, _-_, _+_, _<_}
-use mathlib.Core.Path.{_≡_, refl, sym, ap, _∙_}
-use mathlib.Core.Bool.{true, false}
-use mathlib.Core.List.{List}
+use Prim.Native.Nat.{_-_}
+use mathlib.Core.Path.{_≡_, refl}
 use native.Mathlib.Omega.{arith}
 use borrow.Author.Needs.{needs}
 use lib.ListN.{length-map, length, take, drop}
 use Rattle.rules.specs.Bounds.{queueRoom}
 use Rattle.rules.specs.Forced.{queued, isQueued, noPosition}
-use Rattle.rules.specs.declared.ForcedPosition.{ForcedPosition}
-use Rattle.queue.proofs.Places.{still, none-left, queued-at, queued-not-at, queued-nowhere}
+use Rattle.queue.proofs.Places.{search-found, search-on, search-end}
 use Rattle.queue.proofs.unchecked.is_queued.Statement.{statement}
 use Rattle.queue.proofs.unchecked.is_queued.Tie as tie
 
@@ -40,10 +37,10 @@ same-place-requires c κs = search needs
 returns : tie.Need-returns Inv-loop μ-loop
 unfolding queued
 returns c =
-    let l = c .before .before .before .before .before in
-    let s = l .before .before in
-    let e = sym (c .before .same-place .ensures) ∙ c .if1 .taken in
-    sym (queued-at _ _ _ e) ∙ ap (isQueued (s .args .place)) (sym (still _ _ _ noPosition (c .before .before .before .before .loop-test .taken) (omega (arith, long s)))) ∙ l .loop .inv
+    let d = c .before .before .before .before in
+    let s = d .before .before .before in
+    search-found (s .args .place) (s .args .queue .entries) _ _ (d .before .loop .inv) noPosition (d .loop-test .taken) (omega (arith, long s))
+    (c .before .same-place .ensures) (c .if1 .taken)
 
 add-i : tie.Need-add-i Inv-loop μ-loop
 add-i c = search needs
@@ -53,17 +50,16 @@ loop-less c = search needs
 
 loop-again : tie.Need-loop-again Inv-loop μ-loop
 loop-again c =
-    let l = c .before .before .before .before .before in
-    let s = l .before .before in
-    let e = sym (c .before .same-place .ensures) ∙ c .if1 .left in
-    sym (queued-not-at _ _ _ e) ∙ ap (isQueued (s .args .place)) (sym (still _ _ _ noPosition (c .before .before .before .before .loop-test .taken) (omega (arith, long s)))) ∙ l .loop .inv
+    let d = c .before .before .before .before in
+    let s = d .before .before .before in
+    search-on (s .args .place) (s .args .queue .entries) _ _ (d .before .loop .inv) noPosition (d .loop-test .taken) (omega (arith, long s))
+    (c .before .same-place .ensures) (c .if1 .left)
 
 returns-2 : tie.Need-returns-2 Inv-loop μ-loop
 unfolding queued
 returns-2 c =
-    let l = c .before in
-    let s = l .before .before in
-    sym (queued-nowhere (s .args .place)) ∙ ap (isQueued (s .args .place)) (sym (none-left (s .args .queue .entries) _ _ (c .loop-test .left))) ∙ l .loop .inv
+    let s = c .before .before .before in
+    search-end (s .args .place) (s .args .queue .entries) _ _ (c .before .loop .inv) (c .loop-test .left)
 
 pub is-queued-spec : {M : Type 1} → statement M
 is-queued-spec =

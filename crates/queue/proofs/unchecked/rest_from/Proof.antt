@@ -1,15 +1,14 @@
 -- `queue::unchecked::rest_from` meets its contract. The loop's invariant: the new entries are the first i of those from start on, and 0
 -- behind them.
 -- Assumes nothing.
-use Prim.Native.Nat.{ℕ, _≤_, _-_, _+_, _<_}
-use mathlib.Core.Path.{_≡_, refl, sym, ap, _∙_}
-use mathlib.Core.List.{List, []}
+use Prim.Native.Nat.{ℕ, _≤_, _-_, _+_}
+use mathlib.Core.Path.{_≡_, sym, ap, _∙_}
 use native.Mathlib.Omega.{arith}
 use borrow.Author.Needs.{needs}
-use lib.ListN.{length-map, length, take, drop}
+use lib.ListN.{length-map, length}
 use lib.Seq.{slice, length-slice}
 use Rattle.rules.specs.Bounds.{queueRoom}
-use Rattle.rules.specs.Forced.{queued, queueOf, padded, noPosition}
+use Rattle.rules.specs.Forced.{queued, padded, noPosition}
 use Rattle.rules.specs.declared.ForcedPipeline.{ForcedPipeline}
 use Rattle.queue.proofs.Entries.{queue-is, none-moved, moved}
 use Rattle.queue.proofs.unchecked.rest_from.Statement.{statement}
@@ -70,7 +69,8 @@ returns c =
     let s = l .before .before .before .before .before in
     let q = s .args .queue in
     let all : s .args .start + l .loop .i ≡ q .len = omega arith in
-    queue-is _ (slice (s .args .start) (q .len) (q .entries)) _ (l .loop .inv .1 ∙ ap (λ (n : ℕ). padded queueRoom (slice (s .args .start) n (q .entries))) all)
+    queue-is _ (slice (s .args .start) (q .len) (q .entries)) _
+    (l .loop .inv .1 ∙ ap (λ (n : ℕ). padded queueRoom (slice (s .args .start) n (q .entries))) all)
     (sym (length-slice (s .args .start) (q .len) (q .entries) (omega (arith, long s))))
 
 pub rest-from-spec : {M : Type 1} → statement M

@@ -1,6 +1,5 @@
 -- `queue::unchecked::same_place` meets its contract: equal bits are equal coordinates.
 -- Assumes nothing.
-use mathlib.Core.Path.{_≡_}
 use mir.Syntax.{w32}
 use mir.Val.{SFits}
 use Rattle.base.specs.Whole.{eqZ}

@@ -1,0 +1,24 @@
+-- Cells read as one number: each is a byte, the first the lowest.
+use Prim.Native.Nat.{ℕ, zero, suc, _+_, _*_, _^_, _<_}
+use mathlib.Core.Path.{_≡_}
+use mathlib.Core.List.{List}
+use lib.Dec.{eqb}
+use lib.ListN.{getD}
+use Rattle.base.specs.Counting.{pick}
+
+unfoldable pub word : ℕ → (ℕ → ℕ) → ℕ
+word zero f = 0
+word (suc n) f = f n * 2 ^ (8 * n) + word n f
+
+-- what is left of a tile's cell where a window shows this colour: all of it, or nothing where the window is bare
+abbrev pub maskOf : ℕ → ℕ
+maskOf colour = pick (eqb colour 0) 0 255
+
+-- nine cells, each a byte
+pub record Cells (window : List ℕ) : Type 0 where
+  pub low : (i : ℕ) → i < 9 → getD window i 0 < 256
+
+-- a window's colours with their masks
+pub record Masked (window mask : List ℕ) : Type 0 where
+  pub cells : Cells window
+  pub masks : (i : ℕ) → i < 9 → getD mask i 0 ≡ maskOf (getD window i 0)

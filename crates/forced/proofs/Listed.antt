@@ -1,0 +1,28 @@
+-- What a call that has made the checks has of a cell and of its listing, for forced neighbours and the scan.
+--     cell-inside      the cell's number is that of a cell, of which there are few
+--     listing-says     what is said of the colours of the set, in any number of bits, is said of the colours listed
+-- Assumes nothing.
+use Prim.Native.Nat.{ℕ, _+_, _*_, _^_, _<_, _≤_}
+use mathlib.Core.Path.{_≡_, sym, _∙_, ap}
+use mathlib.Core.Bool.{Bool}
+use mathlib.Core.List.{List}
+use Rattle.base.proofs.Numbers.{cell-lt, mul-le}
+use Rattle.rules.specs.Sets.{has, setOf, coloursOf}
+use Rattle.rules.specs.declared.TileBitset.{TileBitset}
+use Rattle.rules.specs.declared.Listing.{Listing}
+use Rattle.rules.specs.declared.Listing.the-variants.{Colours}
+use Rattle.sets.proofs.Digits.{bits-lt}
+use Rattle.sets.proofs.Colours.{colours-back}
+use Rattle.sets.proofs.Calls.{set-bits}
+use Rattle.fit.specs.Ready.{Ready, OnGrid}
+
+pub cell-inside : (pieces : List ℕ) (rows cols : ℕ) (tiles : List ℕ) (count r c : ℕ) → Ready pieces rows cols tiles count → OnGrid rows cols r c
+    → (r * cols + c < rows * cols) × (rows * cols ≤ 4096)
+cell-inside pieces rows cols tiles count r c ready on =
+    (cell-lt (on .down) (on .across), mul-le (ready .tried .board .tall) (ready .tried .board .wide))
+
+pub listing-says : {A : Type 0} {r : A} (say : List ℕ → A) (l : Listing) (s : TileBitset) (n : ℕ) (f : ℕ → Bool) → l ≡ Colours s → l ≡ Colours (setOf n f)
+    → ((m : ℕ) → s .bits < 2 ^ m → r ≡ say (coloursOf m (has (s .bits)))) → r ≡ say (coloursOf n f)
+listing-says say l s n f p q h =
+    let e : s ≡ setOf n f = cc in
+    h n (rw (set-bits s n f e) (bits-lt n f)) ∙ ap (λ (x : ℕ). say (coloursOf n (has x))) (set-bits s n f e) ∙ ap say (colours-back n f)
