@@ -1,20 +1,22 @@
 // Document 01, "Fit": how many tiles fit a region, and which colours fit a cell. The text's algorithm/feasibility.rs and the
 // listing of algorithm/selection.rs, by the direct fit test.
+mod pattern;
+
 ghost use mathlib.Core.Path.{_≡_};
-ghost use mathlib.Core.Bool.{false, not, _&&_};
+ghost use mathlib.Core.Bool.{not, _&&_};
 ghost use Prim.Native.Nat.{ℕ, _+_, _*_, _^_, _<_, _≤_};
 ghost use lib.Dec.{eqb, ltb};
 ghost use lib.ListN.{length, getD};
-ghost use Rattle.base.specs.Counting.{pick, every};
-ghost use Rattle.base.specs.Tables.{tab};
+ghost use Rattle.base.specs.Counting.{pick};
 ghost use Rattle.base.specs.Refusal.{refusal, accepted};
-ghost use Rattle.rules.specs.Grid.{flat, cellNumber, colourOn};
+ghost use Rattle.rules.specs.Grid.{flat};
 ghost use Rattle.rules.specs.Bounds.{maxColours, maxTiles};
+ghost use Rattle.rules.specs.Tests.{tilesIn};
 ghost use Rattle.rules.specs.Sets.{has, bitsOf, setOf};
-ghost use Rattle.rules.specs.Fit.{pattern, fitsTile, fitCount, serves, hasFitting, allows, windowOrder, lists, piecesChecks, listing, regionCount};
+ghost use Rattle.rules.specs.Fit.{pattern, fitCount, serves, hasFitting, allows, windowOrder, lists, piecesChecks, listing, regionCount};
 ghost use Rattle.rules.specs.Scores.{fraction, fractionChecks, fractionAt};
 ghost use Rattle.rules.specs.declared.Listing.the-variants.{Colours};
-ghost use Rattle.fit.specs.Words.{word, maskOf, Cells, Masked};
+ghost use Rattle.fit.specs.Words.{Masked};
 ghost use Rattle.fit.specs.Ready.{Readable, Countable, Ready, OnGrid, Coloured};
 use rules::Cell;
 use rules::FractionAnswer;
@@ -53,124 +55,26 @@ pub fn pieces_refused(pieces: &[u32], rows: usize, cols: usize, tiles: &[u8], co
     0
 }
 
-// The colour on the cell (r, c); 0 where it is bare or past the edge.
-fn colour_at(pieces: &[u32], rows: usize, cols: usize, r: usize, c: usize) -> u8
-    requires { ⌜ Readable (now pieces) rows cols ⌝ }
-    ensures { λ x. ⌜ x ≡ colourOn (now (pieces .entry)) (cellNumber rows cols r c) ⌝ }
-{
-    if r >= rows {
-        return 0;
-    }
-    if c >= cols {
-        return 0;
-    }
-    (pieces[r * cols + c] - 1) as u8
-}
-
-// The nine colours of the window that starts at (row, col).
-fn window_at(pieces: &[u32], rows: usize, cols: usize, row: usize, col: usize) -> [u8; 9]
-    requires { ⌜ Readable (now pieces) rows cols ⌝ }
-    requires { ⌜ OnGrid rows cols row col ⌝ }
-    ensures { λ w. ⌜ w ≡ tab 9 (pattern (flat rows cols) (now (pieces .entry)) (row * cols + col)) ⌝ }
-{
-    let mut window = [0u8; 9];
-    let mut i = 0;
-    while i < 9 {
-        window[i] = colour_at(pieces, rows, cols, row + i / 3, col + i % 3);
-        i += 1;
-    }
-    window
-}
-
-// Two, four and eight cells read as one number, the first the lowest: the compiler makes one load of the eight.
-fn pair(cells: &[u8], at: usize) -> u64
-    requires { ⌜ at + 2 ≤ length (now cells) ⌝ }
-    ensures { λ r. ⌜ r ≡ word 2 (λ i. getD (now (cells .entry)) (at + i) 0) ⌝ }
-{
-    let low = cells[at] as u64;
-    let high = cells[at + 1] as u64;
-    high * 0x100 + low
-}
-
-fn four(cells: &[u8], at: usize) -> u64
-    requires { ⌜ at + 4 ≤ length (now cells) ⌝ }
-    ensures { λ r. ⌜ r ≡ word 4 (λ i. getD (now (cells .entry)) (at + i) 0) ⌝ }
-{
-    let low = pair(cells, at);
-    let high = pair(cells, at + 2);
-    high * 0x1_0000 + low
-}
-
-fn eight(cells: &[u8], at: usize) -> u64
-    requires { ⌜ at + 8 ≤ length (now cells) ⌝ }
-    ensures { λ r. ⌜ r ≡ word 8 (λ i. getD (now (cells .entry)) (at + i) 0) ⌝ }
-{
-    let low = four(cells, at);
-    let high = four(cells, at + 4);
-    high * 0x1_0000_0000 + low
-}
-
-// What a window's colour leaves of a tile's cell: all of it, or nothing where the window is bare.
-fn mask_for(colour: u8) -> u8
-    ensures { λ r. ⌜ r ≡ maskOf colour ⌝ }
-{
-    if colour == 0 { 0 } else { 255 }
-}
-
-fn masks_for(window: &[u8; 9]) -> [u8; 9]
-    ensures { λ r. ⌜ r ≡ tab 9 (λ i. maskOf (getD (now (window .entry)) i 0)) ⌝ }
-{
-    let mut masks = [0u8; 9];
-    let mut i = 0;
-    while i < 9 {
-        masks[i] = mask_for(window[i]);
-        i += 1;
-    }
-    masks
-}
-
-// Tile n fits the window: its cells, where the window is laid, are the window's. All nine are compared at once, with no branch.
-fn tile_fits(tiles: &[u8], n: usize, window: &[u8; 9], mask: &[u8; 9]) -> bool
-    requires { ⌜ n * 9 + 9 ≤ length (now tiles) ⌝ }
-    requires { ⌜ Masked (now window) (now mask) ⌝ }
-    ensures { λ r. ⌜ r ≡ fitsTile (now (tiles .entry)) (λ i. getD (now (window .entry)) i 0) n ⌝ }
-{
-    let at = n * 9;
-    let first = (eight(tiles, at) & eight(mask, 0)) == eight(window, 0);
-    let last = (tiles[at + 8] & mask[8]) == window[8];
-    first & last
-}
-
 fn one_if(test: bool) -> u32
     ensures { λ r. ⌜ r ≡ pick test 1 0 ⌝ }
 {
     test as u32
 }
 
-// No piece lies in the window.
-fn is_bare(window: &[u8; 9]) -> bool
-    requires { ⌜ Cells (now window) ⌝ }
-    ensures { λ r. ⌜ r ≡ every 9 (λ i. eqb (getD (now (window .entry)) i 0) 0) ⌝ }
-{
-    let first = eight(window, 0) == 0;
-    let last = window[8] == 0;
-    first & last
-}
-
 // How many tiles fit the window: all of them where it is bare.
 fn fit_count(tiles: &[u8], window: &[u8; 9], mask: &[u8; 9]) -> u32
-    requires { ⌜ length (now tiles) ≤ 64800 ⌝ }
+    requires { ⌜ tilesIn (now tiles) ≤ maxTiles ⌝ }
     requires { ⌜ Masked (now window) (now mask) ⌝ }
     ensures { λ r. ⌜ r ≡ fitCount (now (tiles .entry)) (λ i. getD (now (window .entry)) i 0) ⌝ }
 {
     let last = tiles.len() / rules::TILE_CELLS;
-    if is_bare(window) {
+    if pattern::is_bare(window) {
         return last as u32;
     }
     let mut count = 0;
     let mut n = 0;
     while n < last {
-        count += one_if(tile_fits(tiles, n, window, mask));
+        count += one_if(pattern::tile_fits(tiles, n, window, mask));
         n += 1;
     }
     count
@@ -189,8 +93,8 @@ pub fn fit_count_at(
     requires { ⌜ OnGrid rows cols row col ⌝ }
     ensures { λ r. ⌜ r ≡ fitCount (now (tiles .entry)) (pattern (flat rows cols) (now (pieces .entry)) (row * cols + col)) ⌝ }
 {
-    let window = window_at(pieces, rows, cols, row, col);
-    let mask = masks_for(&window);
+    let window = pattern::window_at(pieces, rows, cols, row, col);
+    let mask = pattern::masks_for(&window);
     fit_count(tiles, &window, &mask)
 }
 
@@ -218,10 +122,10 @@ fn missing_past(
     requires { ⌜ q < 9 ⌝ }
     ensures { λ r. ⌜ ((m : ℕ) → m ≤ maxColours → missing < 2 ^ m → r ≡ bitsOf m (λ t. has missing t && not (serves (now (tiles .entry)) (λ i. getD (now (window .entry)) i 0) q t n))) ⌝ }
 {
-    if !tile_fits(tiles, n, window, mask) {
+    if !pattern::tile_fits(tiles, n, window, mask) {
         return missing;
     }
-    without_colour(missing, tiles[n * 9 + q] as u32)
+    without_colour(missing, tiles[n * rules::TILE_CELLS + q] as u32)
 }
 
 // Those of the colours left that a fitting tile has at place q. The tiles are walked until no colour is missing.
@@ -232,10 +136,10 @@ fn window_colours(left: u32, tiles: &[u8], window: &[u8; 9], mask: &[u8; 9], q: 
     requires { ⌜ q < 9 ⌝ }
     ensures { λ r. ⌜ ((n : ℕ) → n ≤ maxColours → left < 2 ^ n → r ≡ bitsOf n (λ t. has left t && hasFitting (now (tiles .entry)) (λ i. getD (now (window .entry)) i 0) q t)) ⌝ }
 {
-    let last = tiles.len() / rules::TILE_CELLS;
+    let end = tiles.len() / rules::TILE_CELLS;
     let mut missing = left;
     let mut n = 0;
-    while n < last {
+    while n < end {
         if missing == 0 {
             return left;
         }
@@ -269,8 +173,8 @@ fn narrowed(
     if col < q % 3 {
         return left;
     }
-    let window = window_at(pieces, rows, cols, row - q / 3, col - q % 3);
-    let mask = masks_for(&window);
+    let window = pattern::window_at(pieces, rows, cols, row - q / 3, col - q % 3);
+    let mask = pattern::masks_for(&window);
     window_colours(left, tiles, &window, &mask, q)
 }
 

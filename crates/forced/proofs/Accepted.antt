@@ -5,8 +5,8 @@ use mathlib.Core.Path.{_≡_, refl, sym, _∙_, ap}
 use mathlib.Core.Bool.{true}
 use mathlib.Core.List.{List, []}
 use native.Mathlib.Omega.{arith}
-use Rattle.base.specs.Refusal.{Checks, accepted, refusal, unlessRefused}
-use Rattle.base.proofs.Chain.{_then_, numbered, then-go, then-stop, kept-old, has-new}
+use Rattle.base.specs.Refusal.{Checks, accepted, refusal}
+use Rattle.base.proofs.Chain.{_then_, numbered, then-go, then-stop, kept-old}
 use Rattle.rules.specs.Fit.{piecesChecks, placeChecks}
 use Rattle.rules.specs.Forced.{forcedRound, positionsOf, forcedNeighbours}
 use Rattle.rules.specs.declared.World.{World}

@@ -2,15 +2,15 @@
 --     not-admitted, off-board, on-board    what each test leaves of `forcedColour`
 --     beside    the position with that colour, none where it is 0, is the one that the definition finds
 -- Assumes nothing.
-use Prim.Native.Nat.{ℕ, _+_, _*_, _<_, _≤_}
-use mathlib.Core.Path.{_≡_, refl, sym, _∙_, ap}
+use Prim.Native.Nat.{ℕ, _+_, _*_}
+use mathlib.Core.Path.{_≡_, refl, sym, _∙_}
 use mathlib.Core.Bool.{Bool, true, false, not, _&&_}
 use mathlib.Core.List.{List, [], _∷_}
 use borrow.Author.Tests.{eqb-true, not-true, not-false}
-use lib.Dec.{ltb, eqb}
-use lib.ListN.{length, getD}
+use lib.Dec.{eqb}
+use lib.ListN.{length}
 use Rattle.base.specs.Counting.{pick}
-use Rattle.base.proofs.Bools.{by-test, and-left, and-right, and-both, and-no-left, and-no-right, pick-yes, pick-no, not-is-true, not-is-false}
+use Rattle.base.proofs.Bools.{by-test, and-right, and-no-left, and-no-right, pick-no}
 use Rattle.rules.specs.Tests.{onBoard}
 use Rattle.rules.specs.Places.{cellOf}
 use Rattle.rules.specs.Grid.{flat, numberOf, laidOn}

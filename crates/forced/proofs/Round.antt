@@ -1,4 +1,4 @@
--- The eight neighbours in the loop's order: those found before a turn, and after it.
+-- The eight neighbours in the loop's order: those found before a turn, and after it; there are eight at most.
 -- Assumes nothing.
 use Prim.Native.Nat.{ℕ, _+_, _<_, _≤_}
 use mathlib.Core.Path.{_≡_, refl, sym, _∙_, ap}
@@ -34,8 +34,7 @@ order-lt i l = ltb-true (getD roundOrder i 0) 9 (every-at (λ i. ltb (getD round
 skip-centre : {A : Type 0} (test : ℕ → Bool) (f : ℕ → A) → those 8 (λ i. test (getD roundOrder i 0)) (λ i. f (getD roundOrder i 0)) ≡ those 9 (λ d. not (eqb d 4) && test d) f
 unfolding those
 skip-centre {A} test f =
-    let after : List A → List A =
-    λ l. (((l ++ pick (test 5) (f 5 ∷ []) []) ++ pick (test 6) (f 6 ∷ []) []) ++ pick (test 7) (f 7 ∷ []) []) ++ pick (test 8) (f 8 ∷ []) [] in
+    let after : List A → List A = λ l. (((l ++ pick (test 5) (f 5 ∷ []) []) ++ pick (test 6) (f 6 ∷ []) []) ++ pick (test 7) (f 7 ∷ []) []) ++ pick (test 8) (f 8 ∷ []) [] in
     ap after (sym (append-nil (those 4 test f)))
 
 module _ (pieces : List ℕ) (rows cols : ℕ) (tiles : List ℕ) (count : ℕ) (w : World) (o : Offset) (b : GenerationBounds) where
@@ -71,3 +70,9 @@ module _ (pieces : List ℕ) (rows cols : ℕ) (tiles : List ℕ) (count : ℕ) 
       let e : i ≡ 8 = omega arith in
       rw e
       (skip-centre (λ d. isForced pieces rows cols tiles count (neighbour w d) o b) (λ d. forcedThere pieces rows cols tiles count (neighbour w d) o))
+
+  -- so there are eight at most
+  pub round-few : length (forcedRound pieces rows cols tiles count w o b) ≤ addedRoom
+  unfolding foundBefore
+  round-few =
+      omega (arith, ap length (before-all addedRoom (omega arith) (omega arith)), length-those addedRoom testAt foundAt, tally-le testAt addedRoom)

@@ -1,7 +1,7 @@
 -- Forced neighbours once the checks are made: what the functions beneath the call lean on, and their answers one neighbour at a time.
 use Prim.Native.Nat.{ℕ}
 use mathlib.Core.Path.{_≡_}
-use mathlib.Core.Bool.{Bool, true}
+use mathlib.Core.Bool.{true}
 use mathlib.Core.List.{List, [], _∷_, _++_}
 use lib.Dec.{eqb}
 use Rattle.base.specs.Counting.{pick}

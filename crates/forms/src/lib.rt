@@ -6,6 +6,8 @@ ghost use Rattle.rules.specs.Bounds.{maxSampleSide, maxTiles};
 ghost use Rattle.rules.specs.Tiles.{sampleCell, startsAlong, windowTile, rotated, reflected, turned, turns, forms, form, variant, variants};
 ghost use Rattle.forms.specs.Sample.{Sample};
 
+const TILE_SIDE: usize = 3;
+
 // A cell of the sample, and 0 past it.
 fn sample_cell(sample: &[u8], rows: usize, cols: usize, r: usize, c: usize) -> u8
     requires { ⌜ Sample (now sample) rows cols ⌝ }
@@ -24,10 +26,10 @@ fn sample_cell(sample: &[u8], rows: usize, cols: usize, r: usize, c: usize) -> u
 fn starts_along(side: usize) -> usize
     ensures { λ n. ⌜ n ≡ startsAlong side ⌝ }
 {
-    if side < 3 {
+    if side < TILE_SIDE {
         return 1;
     }
-    side - 2
+    side - TILE_SIDE + 1
 }
 
 // The tile of the window that starts at (r, c).
@@ -37,8 +39,8 @@ fn window_tile(sample: &[u8], rows: usize, cols: usize, r: usize, c: usize) -> [
 {
     let mut tile = [0u8; 9];
     let mut k = 0;
-    while k < 9 {
-        tile[k] = sample_cell(sample, rows, cols, r + k / 3, c + k % 3);
+    while k < rules::TILE_CELLS {
+        tile[k] = sample_cell(sample, rows, cols, r + k / TILE_SIDE, c + k % TILE_SIDE);
         k += 1;
     }
     tile

@@ -5,7 +5,7 @@ use mathlib.Core.Path.{_≡_, sym}
 use mathlib.Core.List.{List}
 use Rattle.base.specs.Refusal.{refusal}
 use Rattle.base.proofs.Chain.{passed, pass-by, no-check}
-use Rattle.rules.specs.Bounds.{maxWeight, SHAPE, LENGTH, COUNT, CELL}
+use Rattle.rules.specs.Bounds.{SHAPE, LENGTH, COUNT, CELL}
 use Rattle.rules.specs.Tests.{boardSides, hasLength, wholeTiles, colourCount, noneAbove, piecesStored}
 use Rattle.rules.specs.Forced.{scanChecks, deadEnd}
 use Rattle.checks.proofs.Sides.{long}

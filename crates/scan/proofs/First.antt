@@ -2,14 +2,14 @@
 -- none. Over the definitions alone.
 -- Assumes nothing.
 use Prim.Native.Nat.{ℕ, zero, suc, _+_, _*_, _/_, _%_, _<_, _≤_}
-use mathlib.Core.Path.{_≡_, refl, sym, _∙_, ap, subst}
+use mathlib.Core.Path.{_≡_, refl, _∙_, ap, subst}
 use mathlib.Core.Bool.{Bool, true, false, not, _&&_}
 use mathlib.Core.List.{List, [], _∷_}
 use mathlib.Core.Logic.{_⊎_, ⊎-elim}
 use native.Mathlib.Nat.{add-mul, one-mul, mul-zero, mul-le-mul-right}
 use native.Mathlib.Omega.{arith}
 use borrow.Author.Tests.{lt-ltb, ltb-true, ltb-false, le-ltb, eqb-true, not-true}
-use lib.Dec.{ltb, eqb}
+use lib.Dec.{ltb}
 use lib.ListN.{length, getD}
 use Rattle.base.specs.Counting.{first}
 use Rattle.base.specs.Refusal.{refusal}
@@ -20,8 +20,7 @@ use Rattle.rules.specs.Answers.{deadEndAnswer}
 use Rattle.rules.specs.Grid.{flat}
 use Rattle.rules.specs.Forced.{listedAt, deadAt, scanChecks, deadEnd}
 use Rattle.rules.specs.declared.Cell.{Cell}
-use Rattle.rules.specs.declared.DeadEnd.{DeadEnd}
-use Rattle.rules.specs.declared.DeadEnd.the-variants.{At, Nowhere, Refused}
+use Rattle.rules.specs.declared.DeadEnd.the-variants.{At, Nowhere}
 use Rattle.fit.specs.Ready.{OnGrid}
 
 -- a cell before another, row by row

@@ -4,9 +4,9 @@
 --     dead-laid, dead-light, dead-listed    whether a cell qualifies
 --     refused-is    a refusal
 -- Assumes nothing.
-use Prim.Native.Nat.{ℕ, zero, suc, _+_, _*_, _/_, _%_, _<_, _≤_}
+use Prim.Native.Nat.{ℕ, zero, suc, _+_, _*_, _<_, _≤_}
 use mathlib.Core.Path.{_≡_, refl, sym, _∙_, ap}
-use mathlib.Core.Bool.{Bool, true, false, not, _&&_}
+use mathlib.Core.Bool.{Bool, true, false, not}
 use mathlib.Core.List.{List}
 use native.Mathlib.Nat.{add-mul, one-mul, zero-mul}
 use native.Mathlib.Omega.{arith}
@@ -21,7 +21,6 @@ use Rattle.rules.specs.Answers.{deadEndAnswer}
 use Rattle.rules.specs.Grid.{Shape}
 use Rattle.rules.specs.Forced.{listedAt, deadAt}
 use Rattle.rules.specs.declared.Cell.{Cell}
-use Rattle.rules.specs.declared.DeadEnd.{DeadEnd}
 use Rattle.rules.specs.declared.DeadEnd.the-variants.{At, Nowhere, Refused}
 use Rattle.scan.specs.Scanned.{foundBy}
 

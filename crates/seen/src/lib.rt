@@ -30,7 +30,7 @@ pub fn bucket_of(tile: &[u8; 9]) -> usize
 {
     let mut bucket = 0;
     let mut k = 0;
-    while k < 9 {
+    while k < rules::TILE_CELLS {
         bucket = (bucket * SPREAD + wide(tile[k])) % BUCKETS;
         k += 1;
     }
@@ -42,9 +42,9 @@ fn same_tile(tiles: &[u8], n: usize, tile: &[u8; 9]) -> bool
     requires { ⌜ n < tilesIn (now tiles) ⌝ }
     ensures { λ r. ⌜ r ≡ sameTile (now (tiles .entry)) (now (tile .entry)) n ⌝ }
 {
-    let at = n * 9;
+    let at = n * rules::TILE_CELLS;
     let mut k = 0;
-    while k < 9 {
+    while k < rules::TILE_CELLS {
         if tiles[at + k] != tile[k] {
             return false;
         }

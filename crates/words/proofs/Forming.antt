@@ -121,7 +121,7 @@ module _ (ns : List ℕ) (p : ℕ) (h : p < length ns) where
         (λ k. k)
         (lt-or-le (length ns) (p + suc w))
 
-  other-at : (getD ns p 0 ≡ 1 → ⊥) → (getD ns p 0 ≡ 2 → ⊥) → stepsIn (drop p ns) ≡ misformed
+  pub other-at : (getD ns p 0 ≡ 1 → ⊥) → (getD ns p 0 ≡ 2 → ⊥) → stepsIn (drop p ns) ≡ misformed
   other-at a b = ap stepsIn from-first ∙ other-first (getD ns p 0) (drop (suc p) ns) a b
 
   pub end-lay : getD ns p 0 ≡ 1 → p + 4 ≡ stepEnd ns p

@@ -45,7 +45,7 @@ fn sides_up_to(most: u32, rows: u32, cols: u32) -> bool
 }
 
 // Where the step that starts at p ends; past the last number where none starts so.
-fn step_end(numbers: &[u32], p: usize) -> usize
+pub fn step_end(numbers: &[u32], p: usize) -> usize
     requires { ⌜ p < length (now numbers) ⌝ }
     ensures { λ r. ⌜ r ≡ stepEnd (now (numbers .entry)) p ⌝ }
 {

@@ -3,6 +3,7 @@ mod job;
 mod numbers;
 
 pub use job::form_of;
+pub use job::step_end;
 pub use numbers::parse;
 pub use numbers::read_input;
 

@@ -1,6 +1,5 @@
 -- `forced::beside` meets its contract: the sum fits 32 bits, since the coordinate is in bounds, and stands for the definition's.
 -- Assumes nothing.
-use Prim.Native.Nat.{ℕ}
 use lib.Dec.{lit<}
 use lib.IntN.{pos, _+ℤ_}
 use mir.Syntax.{w32}

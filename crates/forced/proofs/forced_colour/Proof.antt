@@ -1,7 +1,5 @@
 -- `forced::forced_colour` meets its contract: what each test leaves of the definition. Assumes nothing.
-use mathlib.Core.Path.{_≡_, sym, _∙_, ap}
-use Prim.Native.Nat.{ℕ, _<_}
-use mathlib.Core.Bool.{true}
+use mathlib.Core.Path.{_∙_, ap}
 use Rattle.base.proofs.Bools.{fails, passes}
 use Rattle.rules.specs.declared.Cell.{Cell}
 use Rattle.places.proofs.Indices.{row-below, col-below}

@@ -1,6 +1,6 @@
 -- `forced::forced_round` meets its contract: before each turn the positions are those of the neighbours passed. Assumes nothing.
-use Prim.Native.Nat.{ℕ, _+_, _-_, _<_, _≤_}
-use mathlib.Core.Path.{_≡_, sym, _∙_, ap}
+use Prim.Native.Nat.{_-_, _≤_}
+use mathlib.Core.Path.{_≡_, _∙_, ap}
 use native.Mathlib.Omega.{arith}
 use Rattle.rules.specs.Bounds.{addedRoom}
 use Rattle.rules.specs.Forced.{positionsOf}

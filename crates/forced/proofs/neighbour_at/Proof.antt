@@ -1,9 +1,8 @@
 -- `forced::neighbour_at` meets its contract: the step along each side. Assumes nothing.
-use Prim.Native.Nat.{ℕ}
-use mathlib.Core.Path.{_≡_, _∙_, ap}
+use mathlib.Core.Path.{_≡_, _∙_}
 use mathlib.Core.Bool.{true}
 use native.Mathlib.Omega.{arith}
-use lib.IntN.{ℤ, pos, _+ℤ_, _-ℤ_}
+use lib.IntN.{ℤ}
 use Rattle.base.specs.Whole.{withinZ}
 use Rattle.base.proofs.Bools.{and-left, and-right}
 use Rattle.rules.specs.Bounds.{minCoordinate, maxCoordinate}

@@ -1,26 +1,37 @@
 -- `forced::only_colour_at` meets its contract. The listing is always a set, so the way of a refusal is never gone. Assumes nothing.
-use Prim.Native.Nat.{ℕ, _+_, _*_, _<_, _≤_}
-use mathlib.Core.Path.{_≡_, sym, _∙_}
+use mathlib.Core.Path.{sym, _∙_}
 use native.Mathlib.Omega.{arith}
 use borrow.Author.Tests.{lt-ltb, le-ltb}
 use Rattle.base.proofs.Bools.{pick-yes, pick-no}
 use Rattle.rules.specs.Forced.{only}
-use Rattle.forced.proofs.Listed.{cell-inside, listing-says}
+use Rattle.forced.proofs.Listed.{cell-inside, never-refused, listing-says}
 use borrow.Author.Needs.{needs}
 use Rattle.forced.proofs.only_colour_at.Statement.{statement}
 use Rattle.forced.proofs.only_colour_at.Tie as tie
 
 mul-at : tie.Need-mul-at
-mul-at c = let d = c .before .before .before in let k = cell-inside _ _ _ _ _ _ _ (d .pre .0) (d .pre .1) in record { fits = omega arith }
+mul-at c =
+    let d = c .before .before .before in
+    let k = cell-inside _ _ _ _ _ _ _ (d .pre .0) (d .pre .1) in
+    record { fits = omega arith }
 
 add-at : tie.Need-add-at
-add-at c = let d = c .before .before .before .before in let k = cell-inside _ _ _ _ _ _ _ (d .pre .0) (d .pre .1) in record { fits = omega arith }
+add-at c =
+    let d = c .before .before .before .before in
+    let k = cell-inside _ _ _ _ _ _ _ (d .pre .0) (d .pre .1) in
+    record { fits = omega arith }
 
 mul-if1 : tie.Need-mul-if1
-mul-if1 c = let d = c .before .before .before .before in let k = cell-inside _ _ _ _ _ _ _ (d .pre .0) (d .pre .1) in record { fits = omega arith }
+mul-if1 c =
+    let d = c .before .before .before .before in
+    let k = cell-inside _ _ _ _ _ _ _ (d .pre .0) (d .pre .1) in
+    record { fits = omega arith }
 
 shared-slice-read-if1 : tie.Need-shared-slice-read-if1
-shared-slice-read-if1 c = let d = c .before .before .before .before .before in let k = cell-inside _ _ _ _ _ _ _ (d .pre .0) (d .pre .1) in omega (arith, c .before .before .before .before .before .pre .0 .tried .board .plane)
+shared-slice-read-if1 c =
+    let d = c .before .before .before .before .before in
+    let k = cell-inside _ _ _ _ _ _ _ (d .pre .0) (d .pre .1) in
+    omega (arith, d .pre .0 .tried .board .plane)
 
 returns : tie.Need-returns
 returns c = sym (pick-yes _ _ _ (lt-ltb 1 _ (c .if1 .taken)))
@@ -35,7 +46,7 @@ enum-told : tie.Need-enum-told
 enum-told c = search needs
 
 returns-2 : tie.Need-returns-2
-returns-2 c = search needs
+returns-2 c = never-refused _ _ _ (c .before .before .viable-tiles-at .ensures) (c .enum-told .given .1)
 
 only-colour-requires : tie.Need-only-colour-requires
 only-colour-requires c κs = search needs

@@ -1,37 +1,52 @@
 -- `scan::is_dead_end` meets its contract: what each test leaves of the definition. The listing is always a set, so the way of a refusal is
 -- never gone. Assumes nothing.
-use Prim.Native.Nat.{ℕ, _+_, _*_, _<_, _≤_}
-use mathlib.Core.Path.{_≡_, sym, _∙_, ap}
 use native.Mathlib.Omega.{arith}
-use mathlib.Core.List.{List}
 use lib.Dec.{eqb}
 use lib.ListN.{length}
-use Rattle.forced.proofs.Listed.{cell-inside, listing-says}
+use Rattle.forced.proofs.Listed.{cell-inside, never-refused, listing-says}
 use Rattle.scan.proofs.Search.{dead-laid, dead-light, dead-listed}
 use borrow.Author.Needs.{needs}
 use Rattle.scan.proofs.is_dead_end.Statement.{statement}
 use Rattle.scan.proofs.is_dead_end.Tie as tie
 
 mul-at : tie.Need-mul-at
-mul-at c = let d = c .before .before .before .before in let k = cell-inside _ _ _ _ _ _ _ (d .pre .0 .ready) (d .pre .1) in record { fits = omega arith }
+mul-at c =
+    let d = c .before .before .before .before in
+    let k = cell-inside _ _ _ _ _ _ _ (d .pre .0 .ready) (d .pre .1) in
+    record { fits = omega arith }
 
 add-at : tie.Need-add-at
-add-at c = let d = c .before .before .before .before .before in let k = cell-inside _ _ _ _ _ _ _ (d .pre .0 .ready) (d .pre .1) in record { fits = omega arith }
+add-at c =
+    let d = c .before .before .before .before .before in
+    let k = cell-inside _ _ _ _ _ _ _ (d .pre .0 .ready) (d .pre .1) in
+    record { fits = omega arith }
 
 mul-if1 : tie.Need-mul-if1
-mul-if1 c = let d = c .before .before .before .before .before in let k = cell-inside _ _ _ _ _ _ _ (d .pre .0 .ready) (d .pre .1) in record { fits = omega arith }
+mul-if1 c =
+    let d = c .before .before .before .before .before in
+    let k = cell-inside _ _ _ _ _ _ _ (d .pre .0 .ready) (d .pre .1) in
+    record { fits = omega arith }
 
 shared-slice-read-if1 : tie.Need-shared-slice-read-if1
-shared-slice-read-if1 c = let d = c .before .before .before .before .before .before in let k = cell-inside _ _ _ _ _ _ _ (d .pre .0 .ready) (d .pre .1) in omega (arith, c .before .before .before .before .before .before .pre .0 .ready .tried .board .plane)
+shared-slice-read-if1 c =
+    let d = c .before .before .before .before .before .before in
+    let k = cell-inside _ _ _ _ _ _ _ (d .pre .0 .ready) (d .pre .1) in
+    omega (arith, d .pre .0 .ready .tried .board .plane)
 
 returns : tie.Need-returns
 returns c = dead-laid _ _ _ _ _ _ (c .if1 .taken)
 
 mul-if2 : tie.Need-mul-if2
-mul-if2 c = let d = c .before .before .before .before .before .before .before in let k = cell-inside _ _ _ _ _ _ _ (d .pre .0 .ready) (d .pre .1) in record { fits = omega arith }
+mul-if2 c =
+    let d = c .before .before .before .before .before .before .before in
+    let k = cell-inside _ _ _ _ _ _ _ (d .pre .0 .ready) (d .pre .1) in
+    record { fits = omega arith }
 
 shared-slice-read-if2 : tie.Need-shared-slice-read-if2
-shared-slice-read-if2 c = let d = c .before .before .before .before .before .before .before .before in let k = cell-inside _ _ _ _ _ _ _ (d .pre .0 .ready) (d .pre .1) in omega (arith, c .before .before .before .before .before .before .before .before .pre .0 .weighed)
+shared-slice-read-if2 c =
+    let d = c .before .before .before .before .before .before .before .before in
+    let k = cell-inside _ _ _ _ _ _ _ (d .pre .0 .ready) (d .pre .1) in
+    omega (arith, d .pre .0 .weighed)
 
 returns-2 : tie.Need-returns-2
 returns-2 c = dead-light _ _ _ _ _ _ (c .if2 .taken)
@@ -46,7 +61,7 @@ enum-told : tie.Need-enum-told
 enum-told c = search needs
 
 returns-3 : tie.Need-returns-3
-returns-3 c = search needs
+returns-3 c = never-refused _ _ _ (c .before .before .viable-tiles-at .ensures) (c .enum-told .given .1)
 
 no-colour-requires : tie.Need-no-colour-requires
 no-colour-requires c κs = search needs

@@ -1,0 +1,4 @@
+pub mod Sweep
+pub mod Rows
+pub mod Written
+pub mod Spanned

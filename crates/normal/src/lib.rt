@@ -1,0 +1,100 @@
+// Normalising one place's probabilities, document 01, "Probabilities". Every float step is one rounded operation, in the order in which
+// the text takes them.
+ghost use mathlib.Core.Path.{_≡_};
+ghost use mathlib.Core.List.{map};
+ghost use Prim.Native.Nat.{_+_, _*_, _<_};
+ghost use lib.ListN.{length, getD};
+ghost use lib.Ieee.{Float, nan};
+ghost use Rattle.base.specs.Tables.{tab};
+ghost use Rattle.rules.specs.Floats.{over};
+ghost use Rattle.rules.specs.Probabilities.{larger, largestOf, totalOf, usable, normalised};
+
+fn larger(a: f64, b: f64) -> f64
+    ensures { λ r. ⌜ r ≡ larger a b ⌝ }
+{
+    if a < b { b } else { a }
+}
+
+// The largest, 0.0 at the least.
+fn largest(ps: &[f64]) -> f64
+    ensures { λ r. ⌜ r ≡ largestOf (now (ps .entry)) ⌝ }
+{
+    let mut most = 0.0;
+    let mut k = 0;
+    while k < ps.len() {
+        most = larger(most, ps[k]);
+        k += 1;
+    }
+    most
+}
+
+// The sum of p / most, by colour upwards from 0.0.
+fn total(ps: &[f64], most: f64) -> f64
+    ensures { λ r. ⌜ r ≡ totalOf most (now (ps .entry)) ⌝ }
+{
+    let mut sum = 0.0;
+    let mut k = 0;
+    while k < ps.len() {
+        sum = sum + ps[k] / most;
+        k += 1;
+    }
+    sum
+}
+
+// Each p becomes p / most / sum.
+fn share_out(ps: &mut [f64], most: f64, sum: f64)
+    ensures { λ _. ⌜ now (ps .exit) ≡ map (λ (p : Float). over (over p most) sum) (now (ps .entry)) ⌝ }
+{
+    let mut k = 0;
+    while k < ps.len() {
+        ps[k] = ps[k] / most / sum;
+        k += 1;
+    }
+}
+
+pub fn fill(ps: &mut [f64], x: f64)
+    ensures { λ _. ⌜ now (ps .exit) ≡ map (λ (_ : Float). x) (now (ps .entry)) ⌝ }
+{
+    let mut k = 0;
+    while k < ps.len() {
+        ps[k] = x;
+        k += 1;
+    }
+}
+
+// Neither 0 nor infinite.
+fn usable(most: f64) -> bool
+    ensures { λ r. ⌜ r ≡ usable most ⌝ }
+{
+    if 0.0 < most {
+        most < f64::from_bits(0x7ff0_0000_0000_0000)
+    } else {
+        false
+    }
+}
+
+// The probabilities of one place, normalised where they stand: one for each colour.
+pub fn normalise(ps: &mut [f64], count: u32)
+    requires { ⌜ count ≡ length (now ps) ⌝ }
+    ensures { λ _. ⌜ now (ps .exit) ≡ normalised (now (ps .entry)) ⌝ }
+{
+    let most = largest(ps);
+    if !usable(most) {
+        fill(ps, 1.0 / (count as f64));
+        return;
+    }
+    let sum = total(ps, most);
+    share_out(ps, most, sum);
+}
+
+// Colour t's probability at the cell `at`, for each entry t of out.
+pub fn gather(plane: &[f64], cells: usize, at: usize, out: &mut [f64])
+    requires { ⌜ (at < cells) × (length (now plane) ≡ length (now out) * cells) ⌝ }
+    ensures { λ _. ⌜ now (out .exit) ≡ tab (length (now (out .entry))) (λ t. getD (now (plane .entry)) (t * cells + at) nan) ⌝ }
+{
+    let mut t = 0;
+    while t < out.len() {
+        out[t] = plane[t * cells + at];
+        t += 1;
+    }
+}

@@ -1,0 +1,4 @@
+pub mod Place
+pub mod Whole
+pub mod Accept
+pub mod Coincide

@@ -1,0 +1,4 @@
+pub mod Box
+pub mod Region
+pub mod Accept
+pub mod Coincide

@@ -1,0 +1,107 @@
+-- The score of each cell of a region, as the cells are numbered in the plane; and the two calls' planes as such a region's.
+-- Assumes nothing.
+use Prim.Native.Nat.{ℕ, _+_, _-_, _*_, _/_, _%_, _<_, _≤_, min}
+use mathlib.Core.Path.{_≡_, refl, sym, _∙_, ap}
+use mathlib.Core.Bool.{Bool, true, false, _&&_}
+use mathlib.Core.List.{List}
+use native.Mathlib.Nat.{mul-le-mul-right}
+use native.Mathlib.Omega.{arith}
+use lib.Dec.{leb, ltb}
+use lib.ListN.{length, getD}
+use lib.Ieee.{Float, nan}
+use borrow.Author.Tests.{leb-true, ltb-true, le-leb, lt-ltb}
+use Rattle.base.specs.Counting.{pick}
+use Rattle.base.proofs.Bools.{and-left, and-right, and-both, pick-yes, same-test}
+use Rattle.base.proofs.Numbers.{row-of, col-of, row-lt, col-lt}
+use Rattle.base.proofs.Tabled.{tab-ext}
+use Rattle.rules.specs.Tests.{boardSides, onBoard}
+use Rattle.rules.specs.Places.{cellOf}
+use Rattle.rules.specs.Scores.{inSpan, liftFalls, layFalls, pastTarget, scored, layScores, liftScores}
+use Rattle.rules.specs.declared.World.{World}
+use Rattle.rules.specs.declared.Offset.{Offset}
+use Rattle.rules.specs.declared.Span.{Span}
+use Rattle.checks.proofs.Sides.{board-cols}
+use Rattle.places.proofs.Indices.{spanRound, row-span, col-span}
+use Rattle.floats.proofs.Rows.{inside}
+use Rattle.scores.specs.Box.{termOf, scoreAt, regionScored, pastTargets, orderedSpan}
+use Rattle.scores.specs.Fits.{ScoresFit}
+use Rattle.scores.proofs.Box.{box-is}
+use Rattle.scores.proofs.Accept.{Planes}
+
+abbrev pub scoredCell : Bool → List ℕ → ℕ → ℕ → Span → Span → List Float → ℕ → Float
+scoredCell squared counts tiles cols rs cs scores k =
+    pick (liftFalls rs cs (k / cols) (k % cols)) (scoreAt squared counts tiles cols (k / cols) (k % cols)) (getD scores k nan)
+
+pub cell-scored : (squared : Bool) (counts : List ℕ) (tiles cols : ℕ) (rs cs : Span) (scores : List Float) (r j : ℕ)
+    → rs .0 ≤ r → r < rs .1 → cs .0 + j < cs .1 → cs .1 ≤ cols
+    → scoreAt squared counts tiles cols r (cs .0 + j) ≡ scoredCell squared counts tiles cols rs cs scores (r * cols + (cs .0 + j))
+cell-scored squared counts tiles cols rs cs scores r j low high end ends =
+    let within : cs .0 + j < cols = omega arith in
+    rw (row-of r within, col-of r within) (sym (pick-yes _ _ _ (and-both _ _ (inside rs r low high) (inside cs (cs .0 + j) (omega arith) end))))
+
+-- tests of spans that say the same of every cell of the side
+pub past-falls : (side : ℕ) (s : Span) (x : ℕ) → x < side → inSpan (pastTargets side s) x ≡ pastTarget side s x
+past-falls side s x h =
+    let end = min (s .1 + 1) side in
+    same-test _ _
+    (λ e.
+    let a : min (s .0 + 2) end ≤ x = leb-true _ x (and-left (leb (min (s .0 + 2) end) x) (ltb x end) e) in
+    let b : x < end = ltb-true x end (and-right (leb (min (s .0 + 2) end) x) (ltb x end) e) in
+    and-both _ _ (le-leb _ x (omega arith)) (lt-ltb x _ (omega arith)))
+    (λ e.
+    let a : s .0 + 1 + 1 ≤ x = leb-true _ x (and-left (leb (s .0 + 1 + 1) x) (ltb x (min (s .1) side + 1)) e) in
+    let b : x < min (s .1) side + 1 = ltb-true x _ (and-right (leb (s .0 + 1 + 1) x) (ltb x (min (s .1) side + 1)) e) in
+    and-both _ _ (le-leb _ x (omega arith)) (lt-ltb x _ (omega arith)))
+
+pub ordered-falls : (s : Span) (x : ℕ) → inSpan (orderedSpan s) x ≡ inSpan s x
+ordered-falls s x =
+    same-test _ _
+    (λ e.
+    let a : min (s .0) (s .1) ≤ x = leb-true _ x (and-left (leb (min (s .0) (s .1)) x) (ltb x (s .1)) e) in
+    let b : x < s .1 = ltb-true x _ (and-right (leb (min (s .0) (s .1)) x) (ltb x (s .1)) e) in
+    and-both _ _ (le-leb _ x (omega arith)) (lt-ltb x _ (omega arith)))
+    (λ e.
+    let a : s .0 ≤ x = leb-true _ x (and-left (leb (s .0) x) (ltb x (s .1)) e) in
+    let b : x < s .1 = ltb-true x _ (and-right (leb (s .0) x) (ltb x (s .1)) e) in
+    and-both _ _ (le-leb _ x (omega arith)) (lt-ltb x _ (omega arith)))
+
+module _ (scores : List Float) (counts : List ℕ) (rows cols tiles : ℕ) (sides : boardSides rows cols ≡ true) (long : length scores ≡ rows * cols) where
+  region-scored : (squared : Bool) (rs cs : Span) (falls : ℕ → ℕ → Bool) → ((r c : ℕ) → r < rows → c < cols → liftFalls rs cs r c ≡ falls r c)
+      → regionScored squared counts tiles cols rs cs scores ≡ scored rows cols falls (termOf squared counts tiles) scores
+  unfolding regionScored scored scoreAt
+  region-scored squared rs cs falls same =
+      tab-ext (length scores) _ _
+      (λ k h.
+      let wide : 0 < cols = board-cols rows cols sides .0 in
+      let r< : k / cols < rows = row-lt k rows cols wide (omega arith) in
+      let c< : k % cols < cols = col-lt k cols wide in
+      rw (same (k / cols) (k % cols) r< c<, box-is rows cols (k / cols) (k % cols) r< c<))
+
+  pub lay-scored : (w : World) (o : Offset) → onBoard rows cols w o ≡ true → {rs cs : Span} → rs ≡ spanRound (cellOf w o .0) 2 → cs ≡ spanRound (cellOf w o .1) 2
+      → regionScored false counts tiles cols (pastTargets rows rs) (pastTargets cols cs) scores ≡ layScores rows cols counts tiles w o scores
+  unfolding layScores termOf
+  lay-scored w o on {rs} {cs} p q =
+      region-scored false (pastTargets rows rs) (pastTargets cols cs) (layFalls rows cols w o)
+      (λ r c r< c<. rw (past-falls rows rs r r<, past-falls cols cs c c<, p, q, row-span rows cols w o on 2, col-span rows cols w o on 2))
+
+  pub lift-scored : (rs cs : Span) → regionScored true counts tiles cols (orderedSpan rs) (orderedSpan cs) scores ≡ liftScores rows cols counts tiles rs cs scores
+  unfolding liftScores termOf
+  lift-scored rs cs =
+      region-scored true (orderedSpan rs) (orderedSpan cs) (liftFalls rs cs) (λ r c _ _. rw (ordered-falls rs r, ordered-falls cs c))
+
+-- the region of spans of the sides, over planes that were not refused
+pub scores-fit : (scores : List Float) (counts : List ℕ) (rows cols tiles : ℕ) → boardSides rows cols ≡ true → Planes scores counts rows cols tiles
+    → (rs cs : Span) → rs .0 ≤ rs .1 → rs .1 ≤ rows → cs .0 ≤ cs .1 → cs .1 ≤ cols → ScoresFit scores counts cols tiles rs cs
+scores-fit scores counts rows cols tiles sides p rs cs rl rr cl cr =
+    record {
+      region =
+          record {
+            wide = board-cols rows cols sides .0;
+            down = rl;
+            across = cl;
+            ends = cr;
+            room = omega (arith, mul-le-mul-right cols rr, p .scores-long);
+          };
+      number = p .number;
+      long = p .counts-long ∙ sym (p .scores-long);
+    }

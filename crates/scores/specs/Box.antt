@@ -1,0 +1,47 @@
+-- The cells of which a score is the mean, row by row as the code visits them: for a cell of the grid only rows above it and columns
+-- left of it can be missing. And the two scores' terms as one.
+use Prim.Native.Nat.{ℕ, zero, suc, _+_, _-_, _*_, _/_, _%_, min}
+use mathlib.Core.Bool.{Bool, true, false}
+use mathlib.Core.List.{List, [], _∷_, _++_}
+use lib.Dec.{leb}
+use lib.ListN.{length, getD}
+use lib.Ieee.{Float, nan}
+use Rattle.base.specs.Counting.{pick}
+use Rattle.base.specs.Tables.{tab, those}
+use Rattle.rules.specs.Scores.{fraction, squaredFraction, meanOf, liftFalls}
+use Rattle.rules.specs.declared.Span.{Span}
+
+-- the fraction of a cell, squared where `squared` says so
+unfoldable pub termOf : Bool → List ℕ → ℕ → ℕ → Float
+termOf false counts tiles k = fraction counts tiles k
+termOf true counts tiles k = squaredFraction counts tiles k
+
+-- row i of the box of the cell (r, c): columns c-2..=c, from the first that the grid has
+abbrev pub placeIn : ℕ → ℕ → ℕ → ℕ → ℕ → ℕ
+placeIn cols r c i j = (r + i - 2) * cols + (c + j - 2)
+
+unfoldable pub boxRow : ℕ → ℕ → ℕ → ℕ → List ℕ
+boxRow cols r c i = those 3 (leb (2 - c)) (placeIn cols r c i)
+
+-- its first n rows
+unfoldable pub boxRows : ℕ → ℕ → ℕ → ℕ → List ℕ
+boxRows zero cols r c = []
+boxRows (suc n) cols r c = boxRows n cols r c ++ pick (leb (2 - r) n) (boxRow cols r c n) []
+
+-- the score of the cell (r, c)
+unfoldable pub scoreAt : Bool → List ℕ → ℕ → ℕ → ℕ → ℕ → Float
+scoreAt squared counts tiles cols r c = meanOf (termOf squared counts tiles) (boxRows 3 cols r c)
+
+-- each cell of a region gets its score, the others stay
+unfoldable pub regionScored : Bool → List ℕ → ℕ → ℕ → Span → Span → List Float → List Float
+regionScored squared counts tiles cols rowspan colspan scores =
+    tab (length scores)
+    (λ k. pick (liftFalls rowspan colspan (k / cols) (k % cols)) (scoreAt squared counts tiles cols (k / cols) (k % cols)) (getD scores k nan))
+
+-- the cells one further down or right than the targets of a lay, as far as the side goes
+abbrev pub pastTargets : ℕ → Span → Span
+pastTargets side s = record { 0 = min (s .0 + 2) (min (s .1 + 1) side); 1 = min (s .1 + 1) side }
+
+-- a span with the same cells whose start is not past its end
+abbrev pub orderedSpan : Span → Span
+orderedSpan s = record { 0 = min (s .0) (s .1); 1 = s .1 }
