@@ -96,13 +96,14 @@ pub struct TileBitset {
     pub size: u32,
 }
 
-// A place and the one colour that fits there.
+// A place and a colour: in the answer of forced neighbours the one that fits there; in a queue it is not checked.
 pub struct ForcedPosition {
     pub coordinates: World,
     pub colour: u32,
 }
 
-// Forced places in order, as forced neighbours answers them and the queue takes them; entries past the length are 0.
+// Forced places in order, as forced neighbours answers them and the queue takes them. Entries past the length are 0 in the answer and
+// are not read by the queue.
 pub struct ForcedPositions {
     pub entries: [ForcedPosition; 8],
     pub len: usize,

@@ -1,0 +1,145 @@
+-- Each answer at the boundary: its number (0 where the call is accepted, else document 01's refusal number) and what the slices lent for
+-- its values hold then. An entry past the end of a slice is not stored; a refused call stores none.
+use Prim.Native.Nat.{ℕ}
+use mathlib.Core.Bool.{Bool, true, false}
+use mathlib.Core.List.{List}
+use lib.ListN.{set}
+use lib.IntN.{ℤ}
+use lib.Ieee.{Float}
+use Rattle.rules.specs.declared.World.{World}
+use Rattle.rules.specs.declared.Offset.{Offset}
+use Rattle.rules.specs.declared.Cell.{Cell}
+use Rattle.rules.specs.declared.TileBitset.{TileBitset}
+use Rattle.rules.specs.declared.Listing.{Listing}
+use Rattle.rules.specs.declared.Listing.the-variants as Listing·
+use Rattle.rules.specs.declared.DeadEnd.{DeadEnd}
+use Rattle.rules.specs.declared.DeadEnd.the-variants as DeadEnd·
+use Rattle.rules.specs.declared.TileNumber.{TileNumber}
+use Rattle.rules.specs.declared.TileNumber.the-variants as TileNumber·
+use Rattle.rules.specs.declared.Written.{Written}
+use Rattle.rules.specs.declared.Written.the-variants as Written·
+use Rattle.rules.specs.declared.BoundingBox.{BoundingBox}
+use Rattle.rules.specs.declared.Span.{Span}
+use Rattle.rules.specs.declared.SpanAnswer.{SpanAnswer}
+use Rattle.rules.specs.declared.SpanAnswer.the-variants as SpanAnswer·
+use Rattle.rules.specs.declared.SetAnswer.{SetAnswer}
+use Rattle.rules.specs.declared.SetAnswer.the-variants as SetAnswer·
+use Rattle.rules.specs.declared.Verdict.{Verdict}
+use Rattle.rules.specs.declared.Verdict.the-variants as Verdict·
+use Rattle.rules.specs.declared.Number.{Number}
+use Rattle.rules.specs.declared.Number.the-variants as Number·
+use Rattle.rules.specs.declared.FractionAnswer.{FractionAnswer}
+use Rattle.rules.specs.declared.FractionAnswer.the-variants as FractionAnswer·
+use Rattle.rules.specs.declared.LayAnswer.{LayAnswer}
+use Rattle.rules.specs.declared.LayAnswer.the-variants as LayAnswer·
+use Rattle.rules.specs.declared.LiftAnswer.{LiftAnswer}
+use Rattle.rules.specs.declared.LiftAnswer.the-variants as LiftAnswer·
+
+-- ---- what goes in
+
+abbrev pub world : ℤ → ℤ → World
+world row col = record { 0 = row; 1 = col }
+
+abbrev pub offsetBy : ℤ → ℤ → Offset
+offsetBy row col = record { 0 = row; 1 = col }
+
+abbrev pub cellAt : ℕ → ℕ → Cell
+cellAt row col = record { 0 = row; 1 = col }
+
+abbrev pub setFrom : ℕ → ℕ → TileBitset
+setFrom bits size = record { bits = bits; size = size }
+
+-- ---- what comes back
+
+-- a value stored at an entry; nothing where there is no such entry
+unfoldable pub put : {A : Type 0} → List A → ℕ → A → List A
+put l i v = set l i v
+
+abbrev pub writtenNumber : Written → ℕ
+writtenNumber Written·.Done = 0
+writtenNumber (Written·.Refused n) = n
+
+abbrev pub layNumber : LayAnswer → ℕ
+layNumber LayAnswer·.Laid = 0
+layNumber (LayAnswer·.Refused n) = n
+
+abbrev pub liftNumber : LiftAnswer → ℕ
+liftNumber LiftAnswer·.Lifted = 0
+liftNumber (LiftAnswer·.Refused n) = n
+
+-- a set: its bits, then its size
+abbrev pub setStored : TileBitset → List ℕ → List ℕ
+setStored s out = put (put out 0 (s .bits)) 1 (s .size)
+
+abbrev pub listingNumber : Listing → ℕ
+listingNumber (Listing·.Colours s) = 0
+listingNumber (Listing·.Refused n) = n
+
+abbrev pub listingLeft : Listing → List ℕ → List ℕ
+listingLeft (Listing·.Colours s) out = setStored s out
+listingLeft (Listing·.Refused n) out = out
+
+abbrev pub tilesNumber : TileNumber → ℕ
+tilesNumber (TileNumber·.Tiles k) = 0
+tilesNumber (TileNumber·.Refused n) = n
+
+abbrev pub tilesLeft : TileNumber → List ℕ → List ℕ
+tilesLeft (TileNumber·.Tiles k) out = put out 0 k
+tilesLeft (TileNumber·.Refused n) out = out
+
+-- a dead end: 1 and its cell, or 0 where there is none
+abbrev pub deadEndNumber : DeadEnd → ℕ
+deadEndNumber (DeadEnd·.At c) = 0
+deadEndNumber DeadEnd·.Nowhere = 0
+deadEndNumber (DeadEnd·.Refused n) = n
+
+abbrev pub deadEndLeft : DeadEnd → List ℕ → List ℕ
+deadEndLeft (DeadEnd·.At c) out = put (put (put out 0 1) 1 (c .0)) 2 (c .1)
+deadEndLeft DeadEnd·.Nowhere out = put out 0 0
+deadEndLeft (DeadEnd·.Refused n) out = out
+
+abbrev pub setNumber : SetAnswer → ℕ
+setNumber (SetAnswer·.Set s) = 0
+setNumber (SetAnswer·.Refused n) = n
+
+abbrev pub setLeft : SetAnswer → List ℕ → List ℕ
+setLeft (SetAnswer·.Set s) out = setStored s out
+setLeft (SetAnswer·.Refused n) out = out
+
+-- a truth: 0 or 1
+abbrev pub digitOf : Bool → ℕ
+digitOf true = 1
+digitOf false = 0
+
+abbrev pub verdictNumber : Verdict → ℕ
+verdictNumber (Verdict·.Is b) = 0
+verdictNumber (Verdict·.Refused n) = n
+
+abbrev pub verdictLeft : Verdict → List ℕ → List ℕ
+verdictLeft (Verdict·.Is b) out = put out 0 (digitOf b)
+verdictLeft (Verdict·.Refused n) out = out
+
+abbrev pub countNumber : Number → ℕ
+countNumber (Number·.Is k) = 0
+countNumber (Number·.Refused n) = n
+
+abbrev pub countLeft : Number → List ℕ → List ℕ
+countLeft (Number·.Is k) out = put out 0 k
+countLeft (Number·.Refused n) out = out
+
+abbrev pub fractionNumber : FractionAnswer → ℕ
+fractionNumber (FractionAnswer·.Is x) = 0
+fractionNumber (FractionAnswer·.Refused n) = n
+
+abbrev pub fractionLeft : FractionAnswer → List Float → List Float
+fractionLeft (FractionAnswer·.Is x) out = put out 0 x
+fractionLeft (FractionAnswer·.Refused n) out = out
+
+-- two spans: the start and the end of the rows, then of the columns
+abbrev pub spanNumber : SpanAnswer → ℕ
+spanNumber (SpanAnswer·.Spans r c) = 0
+spanNumber (SpanAnswer·.Refused n) = n
+
+abbrev pub spanLeft : SpanAnswer → List ℕ → List ℕ
+spanLeft (SpanAnswer·.Spans r c) out = put (put (put (put out 0 (r .0)) 1 (r .1)) 2 (c .0)) 3 (c .1)
+spanLeft (SpanAnswer·.Refused n) out = out
