@@ -1,0 +1,5 @@
+pub mod Walking
+pub mod Setting
+pub mod Scanned
+pub mod Telling
+pub mod Whole

@@ -1,0 +1,176 @@
+-- No output is cut off: what the program prints for any input has at most 65,536 bytes. A step has three numbers at the least and prints a line;
+-- each plane keeps its length through all steps.
+-- Assumes nothing.
+use Prim.Native.Nat.{ℕ, zero, suc, _+_, _-_, _*_, _/_, _%_, _<_, _≤_}
+use mathlib.Core.Path.{_≡_, refl, sym, _∙_, ap, subst}
+use mathlib.Core.Bool.{Bool, true, false, _&&_}
+use mathlib.Core.List.{List, [], _∷_, _++_}
+use native.Mathlib.Nat.{suc-mul}
+use native.Mathlib.Omega.{arith}
+use lib.Dec.{leb}
+use lib.ListN.{length, getD, set, take, drop, length-append, length-set, length-drop}
+use lib.Seq.{take-at}
+use Rattle.base.specs.Counting.{pick, within}
+use Rattle.base.specs.Tables.{tab, fold}
+use Rattle.base.specs.Refusal.{refusal, unlessRefused, accepted}
+use Rattle.base.proofs.Bools.{and-left, and-right, by-test}
+use Rattle.base.proofs.Numbers.{mul-le, within-high}
+use Rattle.base.proofs.Tabled.{length-tab}
+use Rattle.rules.specs.Bounds.{bare}
+use Rattle.rules.specs.Tests.{tilesIn}
+use Rattle.rules.specs.Forced.{deadEnd}
+use Rattle.rules.specs.Board.{Job, Board, raised, lowered, recounted, laid, lifted, freshBoard, layChecks, afterLay, liftChecks, afterLift}
+use Rattle.rules.specs.declared.Cell.{Cell}
+use Rattle.rules.specs.declared.DeadEnd.{DeadEnd}
+use Rattle.rules.specs.declared.DeadEnd.the-variants as DeadEnd·
+use Rattle.words.specs.Words.{Text, bad, numbers}
+use Rattle.words.specs.Input.{inputText}
+use Rattle.words.specs.Form.{Step, lay, lift, Steps, misformed, steps, stepsIn, listOf, isWhole, maxBoard, sidesUpTo, sampleCells, tailFits, isFormed, setupOf, stepNumbers}
+use Rattle.words.specs.declared.Setup.{Setup}
+use Rattle.words.proofs.Meaning.{spelled, steps-are, input-few}
+use Rattle.words.proofs.Forming.{formed-tail, sides-up}
+use Rattle.lines.specs.Lines.{decimal, numberLine, planeText}
+use Rattle.lines.specs.Pages.{Writes}
+use Rattle.lines.proofs.Texts.{decimal-length, line-length, plane-length}
+use Rattle.lines.proofs.Written.{writes-all}
+use Rattle.lister.specs.Steps.{answerTo, boardAfter, answersText, boardIn}
+use Rattle.lister.specs.Printed.{badLine, refusedLine, planesText, deadEndText, scanText, endText, runText, freshFor, unlessNumber, setupRefusal, tilesOf, jobWith, jobText, numbersText, textFor, printed}
+
+-- ---- planes keep their lengths
+pub record Sized (n : ℕ) (b : Board) : Type 0 where
+  pub pieces : length (b .pieces) ≡ n
+  pub weights : length (b .weights) ≡ n
+  pub counts : length (b .counts) ≡ n
+
+-- what is left of a board is the new one or the old one
+either : (P : Board → Type 0) (n : ℕ) (new old : Board) → P new → P old → P (unlessRefused n new old)
+either P zero new old p q = p
+either P (suc n) new old p q = q
+
+step-sized : (j : Job) (n : ℕ) (b : Board) (s : Step) → Sized n b → Sized n (boardAfter j b s)
+unfolding boardAfter afterLay afterLift laid lifted raised lowered recounted
+step-sized j n b (lay row col colour) h =
+    either (Sized n) (refusal (layChecks j b _ colour)) _ b
+    (record { pieces = length-set (b .pieces) _ (colour + 1) ∙ h .pieces; weights = length-tab (length (b .weights)) _ ∙ h .weights; counts = length-tab (length (b .counts)) _ ∙ h .counts })
+    h
+step-sized j n b (lift row col) h =
+    either (Sized n) (refusal (liftChecks j b _)) _ b
+    (record { pieces = length-set (b .pieces) _ bare ∙ h .pieces; weights = length-tab (length (b .weights)) _ ∙ h .weights; counts = length-tab (length (b .counts)) _ ∙ h .counts })
+    h
+
+run-sized : (j : Job) (n : ℕ) (b : Board) (l : List Step) → Sized n b → Sized n (boardIn j b l)
+unfolding boardIn fold
+run-sized j n b [] h = h
+run-sized j n b (s ∷ l) h = run-sized j n (boardAfter j b s) l (step-sized j n b s h)
+
+pub fresh-sized : (j : Job) → Sized (j .rows * j .cols) (freshFor j)
+unfolding freshFor freshBoard
+fresh-sized j =
+    record { pieces = length-tab (j .rows * j .cols) _; weights = length-tab (j .rows * j .cols) _; counts = length-tab (j .rows * j .cols) _ }
+
+-- ---- steps and their lines
+spelled-length : (l : List Step) → length l * 3 ≤ length (spelled l)
+unfolding spelled
+spelled-length [] = omega arith
+spelled-length (lay row col colour ∷ l) = omega (arith, spelled-length l)
+spelled-length (lift row col ∷ l) = omega (arith, spelled-length l)
+
+steps-few : (ns : List ℕ) → length (listOf (stepsIn ns)) * 3 ≤ length ns
+steps-few ns = go (stepsIn ns) refl
+  where
+    go : (x : Steps) → stepsIn ns ≡ x → length (listOf x) * 3 ≤ length ns
+    go misformed e = omega arith
+    go (steps l) e = omega (arith, spelled-length l, ap length (steps-are ns l e))
+
+answers-length : (j : Job) (b : Board) (l : List Step) → length (answersText j b l) ≤ length l * 11
+unfolding answersText
+answers-length j b [] = omega arith
+answers-length j b (s ∷ l) =
+    omega (arith, length-append (numberLine (answerTo j b s)) (answersText j (boardAfter j b s) l), line-length (answerTo j b s), answers-length j (boardAfter j b s) l)
+
+-- ---- the planes and the scan
+refused-length : (n : ℕ) → length (refusedLine n) ≤ 19
+unfolding refusedLine
+refused-length n = simp length-append (omega (arith, line-length n))
+
+dead-end-length : (cell : Cell) → length (deadEndText cell) ≤ 31
+unfolding deadEndText
+dead-end-length cell = simp length-append (omega (arith, decimal-length (cell .0), line-length (cell .1)))
+
+scan-length : (d : DeadEnd) → length (scanText d) ≤ 31
+unfolding scanText
+scan-length (DeadEnd·.At cell) = dead-end-length cell
+scan-length DeadEnd·.Nowhere = omega arith
+scan-length (DeadEnd·.Refused n) = omega (arith, refused-length n)
+
+planes-length : (n : ℕ) (b : Board) (cols : ℕ) → Sized n b → length (planesText b cols) ≤ 20 + n * 33
+unfolding planesText
+planes-length n b cols h =
+    simp length-append
+    (omega (arith, plane-length bare (b .pieces) cols, plane-length 0 (b .weights) cols, plane-length 0 (b .counts) cols, h .pieces, h .weights, h .counts))
+
+run-length : (j : Job) (n : ℕ) (b : Board) (l : List Step) → Sized n b → length (runText j b l) ≤ length l * 11 + (51 + n * 33)
+unfolding runText endText
+run-length j n b l h =
+    let c : Board = boardIn j b l in
+    let d : DeadEnd = deadEnd (c .pieces) (c .weights) (j .rows) (j .cols) (j .tiles) (j .count) in
+    omega (
+      arith,
+      length-append (answersText j b l) (planesText c (j .cols) ++ scanText d),
+      length-append (planesText c (j .cols)) (scanText d),
+      answers-length j b l,
+      planes-length n c (j .cols) (run-sized j n b l h),
+      scan-length d,
+    )
+
+-- ---- the whole
+formed-board : (ns : List ℕ) → isFormed ns ≡ true → sidesUpTo maxBoard (setupOf ns .board .rows) (setupOf ns .board .cols) ≡ true
+unfolding setupOf tailFits
+formed-board ns t =
+    and-left (sidesUpTo maxBoard _ _) (isWhole (stepsIn (drop (sampleCells ns + 7) ns)))
+    (and-right (leb (sampleCells ns + 7) (length ns)) _ (formed-tail ns t))
+
+job-length : (ns : List ℕ) (s : Setup) → length ns ≤ 8192 → sidesUpTo maxBoard (s .board .rows) (s .board .cols) ≡ true → length (jobText ns s) ≤ 65536
+unfolding jobText jobWith stepNumbers
+job-length ns s h t = go (setupRefusal ns s)
+  where
+    j : Job
+    j = jobWith s (tilesOf ns s)
+
+    rest : List ℕ
+    rest = drop (sampleCells ns + 7) ns
+
+    few : j .rows * j .cols ≤ 1024
+    few =
+        let w = sides-up maxBoard (s .board .rows) (s .board .cols) t in
+        mul-le {a = s .board .rows} {b = s .board .cols} {m = 32} {n = 32} (within-high 1 maxBoard (s .board .rows) (w .0)) (within-high 1 maxBoard (s .board .cols) (w .1))
+
+    go : (n : ℕ) → length (unlessNumber n (runText j (freshFor j) (listOf (stepsIn rest)))) ≤ 65536
+    go zero =
+        omega (
+          arith,
+          run-length j (j .rows * j .cols) (freshFor j) (listOf (stepsIn rest)) (fresh-sized j),
+          steps-few rest,
+          length-drop (sampleCells ns + 7) ns,
+          few,
+        )
+    go (suc n) = omega (arith, refused-length (suc n))
+
+numbers-length : (ns : List ℕ) → length ns ≤ 8192 → length (numbersText ns) ≤ 65536
+unfolding numbersText
+numbers-length ns h =
+    by-test (isFormed ns) (λ t. rw t (job-length ns (setupOf ns) h (formed-board ns t))) (λ t. rw t (omega arith))
+
+pub printed-length : (input : List ℕ) → length (printed input) ≤ 65536
+unfolding printed
+printed-length input = go (inputText input) refl
+  where
+    go : (x : Text) → inputText input ≡ x → length (textFor x) ≤ 65536
+    go bad e = omega arith
+    go (numbers ns) e = numbers-length ns (input-few input ns e)
+
+-- so a buffer of that length starts with the whole of it
+pub printed-whole : (input d : List ℕ) (r : ℕ) (x : List ℕ) → length d ≡ 65536 → Writes (printed input) 0 d r x → take r x ≡ printed input
+printed-whole input d r x e w =
+    let q = writes-all (printed input) d r x w (omega (arith, printed-length input)) in
+    ap (take r) (q .1) ∙ take-at (printed input) (drop (length (printed input)) d) r (sym (q .0))

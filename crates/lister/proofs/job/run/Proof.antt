@@ -1,0 +1,47 @@
+-- `lister::job::run` meets its contract. Assumes nothing.
+use mathlib.Core.Path.{_≡_, refl, sym, _∙_, ap}
+use Rattle.lister.proofs.Telling.{ran-fresh}
+use Rattle.rules.specs.Board.{Board}
+use Rattle.lister.specs.Printed.{jobWith}
+use borrow.Author.Needs.{needs}
+use Rattle.lister.proofs.job.run.Statement.{statement}
+use Rattle.lister.proofs.job.run.Tie as tie
+
+fresh-requires : tie.Need-fresh-requires
+fresh-requires c κs = search needs
+
+run-steps-requires : tie.Need-run-steps-requires
+run-steps-requires c κs = search needs
+
+put-end-requires : tie.Need-put-end-requires
+unfolding jobWith
+put-end-requires c κs = c .before .before .before .before .before .before .before .before .before .before .before .before .before .before .before .before .before .before .before .before .before .before .before .before .before .before .before .before .before .before .before .before .before .pre .0 .sides
+
+same-length : tie.Need-same-length
+same-length c = search needs
+
+same-length-2 : tie.Need-same-length-2
+same-length-2 c = search needs
+
+same-length-3 : tie.Need-same-length-3
+same-length-3 c = search needs
+
+same-length-4 : tie.Need-same-length-4
+same-length-4 c = search needs
+
+returns : tie.Need-returns
+unfolding jobWith
+returns c = ran-fresh _ _ _ (c .before .before .before .before .before .before .before .before .before .before .before .before .before .before .before .before .before .before .before .before .before .before .before .before .before .before .before .before .before .before .before .before .before .before .before .before .pre .0) (c .before .before .before .before .before .before .before .before .before .before .before .before .before .before .before .before .before .before .before .before .before .before .before .before .before .before .fresh .ensures .leaves) (c .before .before .before .before .before .before .before .before .before .before .before .before .before .before .before .run-steps .ensures) (c .before .before .put-end .ensures)
+
+pub run-spec : {M : Type 1} → statement M
+run-spec =
+    tie.close
+    (tie.spec
+    fresh-requires
+    run-steps-requires
+    put-end-requires
+    same-length
+    same-length-2
+    same-length-3
+    same-length-4
+    returns)

@@ -1,0 +1,53 @@
+// The listing program's work: the bytes that it prints for the bytes that it reads. The program itself only reads, calls and writes.
+mod ending;
+mod job;
+mod stepping;
+
+ghost use mathlib.Core.Path.{_≡_};
+ghost use Rattle.io.specs.Counts.{Counts};
+ghost use Rattle.lines.specs.Pages.{Writes};
+ghost use Rattle.lister.specs.Printed.{badLine, numbersText, printed};
+ghost use Rattle.lister.specs.Runs.{Small};
+use words::Form;
+use words::Parsed;
+
+// No output is longer, so that a buffer of this length holds it whole.
+pub const MAX_OUTPUT: usize = 65_536;
+
+fn put_bad_input(out: &mut [u8]) -> usize
+    ensures { λ r. ⌜ Writes badLine 0 (now (out .entry)) r (now (out .exit)) ⌝ }
+{
+    lines::put_text(out, 0, b"bad input\n")
+}
+
+fn list_numbers(out: &mut [u8], numbers: &[u32]) -> usize
+    requires { ⌜ Small (now numbers) ⌝ }
+    ensures { λ r. ⌜ Writes (numbersText (now (numbers .entry))) 0 (now (out .entry)) r (now (out .exit)) ⌝ }
+{
+    let form = words::form_of(numbers);
+    let Form::Whole(setup) = form else {
+        return put_bad_input(out);
+    };
+    job::list_job(out, numbers, setup)
+}
+
+fn list_input(out: &mut [u8], input: &[u8]) -> usize
+    ensures { λ r. ⌜ Writes (printed (now (input .entry))) 0 (now (out .entry)) r (now (out .exit)) ⌝ }
+{
+    let mut store = [0u32; 8192];
+    let parsed = words::read_input(&mut store, input);
+    match parsed {
+        Parsed::Numbers(n) => list_numbers(out, &store[..n]),
+        Parsed::Bad => put_bad_input(out),
+        Parsed::Full => put_bad_input(out),
+    }
+}
+
+// Writes what the program prints for an input at the start of a lent buffer, and answers how many bytes that is. A shorter buffer keeps
+// as much of it as fits.
+pub fn list(input: &[u8], out: &mut [u8]) -> usize
+    ensures { λ r. ⌜ Counts r (now (out .exit)) ⌝ }
+    ensures { λ r. ⌜ Writes (printed (now (input .entry))) 0 (now (out .entry)) r (now (out .exit)) ⌝ }
+{
+    list_input(out, input)
+}
