@@ -1,6 +1,6 @@
 -- `harness::port_fraction` meets its contract: the answer by its definition, passed on. Assumes nothing.
-use Rattle.harness.proofs.Back.{passed-on}
-use Rattle.harness.specs.Boundary.{fractionNumber, fractionLeft}
+use Rattle.boundary.proofs.Back.{passed-on}
+use Rattle.boundary.specs.Boundary.{fractionNumber, fractionLeft}
 use borrow.Author.Needs.{needs}
 use Rattle.harness.proofs.port_fraction.Statement.{statement}
 use Rattle.harness.proofs.port_fraction.Tie as tie

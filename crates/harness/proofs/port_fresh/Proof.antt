@@ -1,6 +1,6 @@
 -- `harness::port_fresh` meets its contract: the answer by its definition, passed on. Assumes nothing.
-use Rattle.harness.proofs.Back.{numbered}
-use Rattle.harness.specs.Boundary.{writtenNumber}
+use Rattle.boundary.proofs.Back.{numbered}
+use Rattle.boundary.specs.Boundary.{writtenNumber}
 use borrow.Author.Needs.{needs}
 use Rattle.harness.proofs.port_fresh.Statement.{statement}
 use Rattle.harness.proofs.port_fresh.Tie as tie

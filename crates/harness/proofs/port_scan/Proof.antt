@@ -1,6 +1,6 @@
 -- `harness::port_scan` meets its contract: the answer by its definition, passed on. Assumes nothing.
-use Rattle.harness.proofs.Back.{passed-on}
-use Rattle.harness.specs.Boundary.{deadEndNumber, deadEndLeft}
+use Rattle.boundary.proofs.Back.{passed-on}
+use Rattle.boundary.specs.Boundary.{deadEndNumber, deadEndLeft}
 use borrow.Author.Needs.{needs}
 use Rattle.harness.proofs.port_scan.Statement.{statement}
 use Rattle.harness.proofs.port_scan.Tie as tie

@@ -1,6 +1,6 @@
 -- `harness::port_set_insert` meets its contract: the answer by its definition, passed on. Assumes nothing.
-use Rattle.harness.proofs.Back.{passed-on}
-use Rattle.harness.specs.Boundary.{setNumber, setLeft}
+use Rattle.boundary.proofs.Back.{passed-on}
+use Rattle.boundary.specs.Boundary.{setNumber, setLeft}
 use borrow.Author.Needs.{needs}
 use Rattle.harness.proofs.port_set_insert.Statement.{statement}
 use Rattle.harness.proofs.port_set_insert.Tie as tie

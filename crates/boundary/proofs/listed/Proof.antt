@@ -1,0 +1,34 @@
+-- `boundary::listed` meets its contract: each case of the answer gives its number and its values. Assumes nothing.
+use Rattle.boundary.proofs.Back.{stored, then-set}
+use Rattle.boundary.specs.Boundary.{listingNumber, listingLeft}
+use mathlib.Core.Path.{_≡_, refl, sym, _∙_, ap, ap₂}
+use borrow.Author.Needs.{needs}
+use Rattle.boundary.proofs.listed.Statement.{statement}
+use Rattle.boundary.proofs.listed.Tie as tie
+
+enum-known-answer : tie.Need-enum-known-answer
+enum-known-answer c = search needs
+
+put-word-requires : tie.Need-put-word-requires
+put-word-requires c κs = search needs
+
+put-word-requires-2 : tie.Need-put-word-requires-2
+put-word-requires-2 c κs = search needs
+
+enum-known-answer-2 : tie.Need-enum-known-answer-2
+enum-known-answer-2 c = search needs
+
+cast-result : tie.Need-cast-result
+cast-result c = search needs
+
+same-length : tie.Need-same-length
+same-length c = search needs
+
+returns : tie.Need-returns
+returns c = stored listingNumber listingLeft (c .before .before .before .before .before .before .before .before .before .answer .given .1) refl (then-set _ _ _ _ (c .before .before .put-word2 .ensures) (c .before .before .before .before .before .before .put-word .ensures))
+
+returns-2 : tie.Need-returns-2
+returns-2 c = search needs
+
+pub listed-spec : {M : Type 1} → statement M
+listed-spec = tie.close (tie.spec enum-known-answer put-word-requires put-word-requires-2 enum-known-answer-2 cast-result same-length returns returns-2)

@@ -1,0 +1,27 @@
+-- `boundary::put_signed` meets its contract: within the slice it stores, past its end nothing changes. Assumes nothing.
+use Rattle.boundary.proofs.Back.{set-past}
+use Rattle.boundary.specs.Boundary.{put}
+use mathlib.Core.Path.{_≡_, sym}
+use borrow.Author.Needs.{needs}
+use Rattle.boundary.proofs.put_signed.Statement.{statement}
+use Rattle.boundary.proofs.put_signed.Tie as tie
+
+mul-value : tie.Need-mul-value
+mul-value c = search needs
+
+slice-set-from-value : tie.Need-slice-set-from-value
+slice-set-from-value c = search needs
+
+same-length : tie.Need-same-length
+same-length c = search needs
+
+returns : tie.Need-returns
+unfolding put
+returns c = search needs
+
+returns-2 : tie.Need-returns-2
+unfolding put
+returns-2 c = sym (set-past _ _ _ (c .if1 .left))
+
+pub put-signed-spec : {M : Type 1} → statement M
+put-signed-spec = tie.close (tie.spec mul-value slice-set-from-value same-length returns returns-2)

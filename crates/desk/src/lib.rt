@@ -1,0 +1,126 @@
+// The functions of the desk program, which is C: fitting colours, lay and lift on numbers, byte tiles and u32 planes. include/desk.h is
+// their C side, for the C programmer; a place goes over as a row and a column on the wall, the offset likewise, each answer is 0 or
+// document 01's refusal number.
+ghost use mathlib.Core.Path.{_≡_};
+ghost use Rattle.base.specs.Refusal.{Gives, refusal};
+ghost use Rattle.rules.specs.Answers.{layAnswer, liftAnswer};
+ghost use Rattle.rules.specs.Fit.{listing};
+ghost use Rattle.rules.specs.Board.{layChecks, afterLay, liftChecks, afterLift};
+ghost use Rattle.board.specs.Calls.{board, job};
+ghost use Rattle.boundary.specs.Boundary.{put, world, offsetBy, layNumber, liftNumber, listingNumber};
+ghost use Rattle.desk.specs.Found.{coloursLeft};
+use boundary::laid;
+use boundary::lifted;
+use boundary::offset_at;
+use boundary::put_long;
+use boundary::world_at;
+use rules::Listing;
+
+// The set goes over as one word of 64 bits, so that sets to 64 colours leave the C side as it is; further words are for what a listing may
+// tell one day beside its colours.
+fn found_colours(answer: Listing, found: &mut [u64]) -> u32
+    ensures { λ r. ⌜ Gives (listingNumber answer) (coloursLeft answer (now (found .entry))) r (now (found .exit)) ⌝ }
+{
+    match answer {
+        Listing::Colours(set) => {
+            put_long(found, 0, set.bits as u64);
+            0
+        }
+        Listing::Refused(n) => n as u32,
+    }
+}
+
+#[no_mangle]
+pub extern "C" fn desk_fitting_colours(
+    pieces: &[u32],
+    rows: usize,
+    cols: usize,
+    tiles: &[u8],
+    count: u32,
+    row: i32,
+    col: i32,
+    down: i32,
+    across: i32,
+    found: &mut [u64],
+) -> u32
+    ensures { λ r. ⌜ Gives (listingNumber (listing (now (pieces .entry)) rows cols (now (tiles .entry)) count (world row col) (offsetBy down across))) (coloursLeft (listing (now (pieces .entry)) rows cols (now (tiles .entry)) count (world row col) (offsetBy down across)) (now (found .entry))) r (now (found .exit)) ⌝ }
+{
+    let position = world_at(row, col);
+    let offset = offset_at(down, across);
+    let answer = fit::compute_viable_tiles_at_position(
+        pieces,
+        rows,
+        cols,
+        tiles,
+        count,
+        position,
+        offset,
+    );
+    found_colours(answer, found)
+}
+
+#[no_mangle]
+pub extern "C" fn desk_lay(
+    pieces: &mut [u32],
+    weights: &mut [u32],
+    counts: &mut [u32],
+    rows: usize,
+    cols: usize,
+    tiles: &[u8],
+    count: u32,
+    row: i32,
+    col: i32,
+    down: i32,
+    across: i32,
+    colour: u32,
+) -> u32
+    ensures { λ r. ⌜ Gives (layNumber (layAnswer (refusal (layChecks (job rows cols count (now (tiles .entry)) (offsetBy down across)) (board (now (pieces .entry)) (now (weights .entry)) (now (counts .entry))) (world row col) colour)))) (afterLay (job rows cols count (now (tiles .entry)) (offsetBy down across)) (board (now (pieces .entry)) (now (weights .entry)) (now (counts .entry))) (world row col) colour) r (board (now (pieces .exit)) (now (weights .exit)) (now (counts .exit))) ⌝ }
+{
+    let position = world_at(row, col);
+    let offset = offset_at(down, across);
+    let answer = board::lay(
+        pieces,
+        weights,
+        counts,
+        rows,
+        cols,
+        tiles,
+        count,
+        position,
+        offset,
+        colour,
+    );
+    laid(answer)
+}
+
+#[no_mangle]
+pub extern "C" fn desk_lift(
+    pieces: &mut [u32],
+    weights: &mut [u32],
+    counts: &mut [u32],
+    rows: usize,
+    cols: usize,
+    tiles: &[u8],
+    count: u32,
+    row: i32,
+    col: i32,
+    down: i32,
+    across: i32,
+) -> u32
+    ensures { λ r. ⌜ Gives (liftNumber (liftAnswer (refusal (liftChecks (job rows cols count (now (tiles .entry)) (offsetBy down across)) (board (now (pieces .entry)) (now (weights .entry)) (now (counts .entry))) (world row col))))) (afterLift (job rows cols count (now (tiles .entry)) (offsetBy down across)) (board (now (pieces .entry)) (now (weights .entry)) (now (counts .entry))) (world row col)) r (board (now (pieces .exit)) (now (weights .exit)) (now (counts .exit))) ⌝ }
+{
+    let position = world_at(row, col);
+    let offset = offset_at(down, across);
+    let answer = board::lift(
+        pieces,
+        weights,
+        counts,
+        rows,
+        cols,
+        tiles,
+        count,
+        position,
+        offset,
+    );
+    lifted(answer)
+}

@@ -1,0 +1,66 @@
+/* The desk's functions: fitting colours, lay and lift, for a C program.
+ *
+ * Build: `rt staticlib desk` proves the functions and writes target/staticlib/libdesk.a; link it, no other library is needed.
+ * They hold no state, allocate nothing, print nothing, and always come back.
+ *
+ * What all three take
+ *   rows, cols    the sides of the board, 1 to 64 each. The planes are row by row: cell (r, c) is entry r * cols + c.
+ *   pieces        1 where the cell is bare, colour t as t + 1. pieces_len is rows * cols.
+ *   tiles         nine bytes a tile, row by row: a colour, or 0 for none. 1 to 7,200 tiles; tiles_len is in bytes.
+ *   count         the number of colours, 1 to 30.
+ *   row, col      the place, in wall coordinates, -1,000,000 to 1,000,000 each.
+ *   down, across  the offset, -999,937 to 1,000,000 each: the cell is (row + down, col + across).
+ * A slice is a pointer and its number of ELEMENTS. Every value of every argument is answered, by 0 or by a refusal's number; NULL with
+ * length 0 is a slice like any other and is not followed. What cannot be checked from inside: a pointer must lead to as many elements as
+ * its length says, and a slice that is changed must not overlap another one.
+ *
+ * What all three give back: 0, or the lowest refusal number that holds. A refused call changes no memory at all.
+ */
+#ifndef DESK_H
+#define DESK_H
+
+#include <stddef.h>
+#include <stdint.h>
+
+#ifdef __cplusplus
+extern "C" {
+#endif
+
+enum desk_refusal {
+    DESK_DONE = 0,
+    DESK_SHAPE = 1,  /* a side of the board is out of bounds */
+    DESK_LENGTH = 2, /* a plane has not rows * cols entries; the tiles are not 1 to 7,200 whole ones */
+    DESK_COUNT = 3,  /* count is out of bounds */
+    DESK_CELL = 4,   /* a tile cell above count; a piece 0 or above count + 1; a weight above 4,000,000,000; a fit count above the tiles */
+    DESK_PLACE = 6,  /* a coordinate or the offset is out of bounds, or the cell is off the board */
+    DESK_TYPE = 7,   /* the colour to lay is 0 or above count */
+    DESK_TAKEN = 8,  /* lay where a piece stands */
+    DESK_BARE = 9    /* lift where none stands */
+};
+
+/* The colours that fit at a place: those that have, in every window round the cell, a tile that agrees with the pieces laid.
+ * Reads all of pieces and tiles. found is written: its first word gets the set, bit t-1 for colour t (found[0] == 0: no colour fits).
+ * Lend one word; further words are left alone today and are kept for what a listing may tell later. With found_len 0 nothing is stored.
+ * Refusals: SHAPE, LENGTH, COUNT, CELL, PLACE. */
+uint32_t desk_fitting_colours(const uint32_t *pieces, size_t pieces_len, size_t rows, size_t cols, const uint8_t *tiles, size_t tiles_len,
+                              uint32_t count, int32_t row, int32_t col, int32_t down, int32_t across, uint64_t *found, size_t found_len);
+
+/* Lays a piece of a colour (1 to count) on a bare cell.
+ * weights and counts are planes like pieces: weights start at 1, counts at the number of tiles. Reads all planes and tiles. Writes the
+ * cell's piece, the weights within distance 2 of it, and the counts of the regions that start within distance 2.
+ * Refusals: SHAPE, LENGTH, COUNT, CELL, PLACE, TYPE, TAKEN. */
+uint32_t desk_lay(uint32_t *pieces, size_t pieces_len, uint32_t *weights, size_t weights_len, uint32_t *counts, size_t counts_len,
+                  size_t rows, size_t cols, const uint8_t *tiles, size_t tiles_len, uint32_t count, int32_t row, int32_t col, int32_t down,
+                  int32_t across, uint32_t colour);
+
+/* Lifts the piece at a place: the planes are then as if it had never lain there (docs/ANSWER.md says from which boards that is so).
+ * Reads and writes what lay does. Refusals: SHAPE, LENGTH, COUNT, CELL, PLACE, BARE. */
+uint32_t desk_lift(uint32_t *pieces, size_t pieces_len, uint32_t *weights, size_t weights_len, uint32_t *counts, size_t counts_len,
+                   size_t rows, size_t cols, const uint8_t *tiles, size_t tiles_len, uint32_t count, int32_t row, int32_t col,
+                   int32_t down, int32_t across);
+
+#ifdef __cplusplus
+}
+#endif
+
+#endif
