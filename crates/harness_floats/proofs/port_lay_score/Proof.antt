@@ -1,0 +1,36 @@
+-- `harness_floats::port_lay_score` meets its contract: the answer by its definition, passed on. Assumes nothing.
+use Rattle.boundary.proofs.Back.{numbered-at, world-is, offset-is}
+use Rattle.boundary.specs.Boundary.{writtenNumber}
+use mathlib.Core.Path.{_≡_, _∙_}
+use Rattle.rules.specs.declared.World.{World}
+use Rattle.rules.specs.declared.Offset.{Offset}
+use Rattle.base.specs.Refusal.{refusal, unlessRefused}
+use Rattle.rules.specs.Answers.{writtenAnswer}
+use Rattle.rules.specs.Scores.{layScoreChecks, layScores}
+use borrow.Author.Needs.{needs}
+use Rattle.harness_floats.proofs.port_lay_score.Statement.{statement}
+use Rattle.harness_floats.proofs.port_lay_score.Tie as tie
+
+world-at-requires : tie.Need-world-at-requires
+world-at-requires c κs = search needs
+
+offset-at-requires : tie.Need-offset-at-requires
+offset-at-requires c κs = search needs
+
+update-feasibility-requires : tie.Need-update-feasibility-requires
+update-feasibility-requires c κs = search needs
+
+written-requires : tie.Need-written-requires
+written-requires c κs = search needs
+
+same-length : tie.Need-same-length
+same-length c = search needs
+
+returns : tie.Need-returns
+returns c =
+    let e = c .before .before .before .before .before .before .before .before .before in
+    let a = e .args in
+    numbered-at writtenNumber (λ (w : World) (o : Offset). writtenAnswer (refusal (layScoreChecks (a .scores .now) (a .counts .now) (a .rows) (a .cols) (a .tiles) w o))) (λ (w : World) (o : Offset). unlessRefused (refusal (layScoreChecks (a .scores .now) (a .counts .now) (a .rows) (a .cols) (a .tiles) w o)) (layScores (a .rows) (a .cols) (a .counts .now) (a .tiles) w o (a .scores .now)) (a .scores .now)) (c .before .before .before .before .before .before .world-at .ensures ∙ world-is (e .fits .row) (e .fits .col)) (c .before .before .before .before .before .offset-at .ensures ∙ offset-is (e .fits .down) (e .fits .across)) (c .written .ensures) (c .before .before .before .update-feasibility .ensures)
+
+pub port-lay-score-spec : {M : Type 1} → statement M
+port-lay-score-spec = tie.close (tie.spec world-at-requires offset-at-requires update-feasibility-requires written-requires same-length returns)
