@@ -24,6 +24,9 @@ const FILES: [(&str, &str, Option<&str>); 10] = [
     ("algorithm", "deadlock", Some("deadlock")),
 ];
 
+/// The crates of the port that export its calls for tests.
+const PORT: [&str; 4] = ["harness", "harness_floats", "harness_forced", "harness_tiles"];
+
 fn main() {
     println!("cargo::rerun-if-env-changed=GREEDYTILE_TEXT");
     println!("cargo::rerun-if-changed=build.rs");
@@ -88,17 +91,21 @@ fn bring(text: &Path, out: &Path, group: &str, name: &str, reach: Option<&Path>,
     target
 }
 
-/// GREEDYTILE_PORT names the port's static library, the file itself (libNAME.a).
+/// GREEDYTILE_PORT names the folder that has the port's static libraries for tests, libharness*.a.
 fn link_port(here: &Path) {
     println!("cargo::rerun-if-env-changed=GREEDYTILE_PORT");
-    let Some(library) = env::var_os("GREEDYTILE_PORT").map(|library| here.join(library)) else {
-        stop("GREEDYTILE_PORT is not set: it names the port's static library");
+    let Some(folder) = env::var_os("GREEDYTILE_PORT").map(|folder| here.join(folder)) else {
+        stop("GREEDYTILE_PORT is not set: it names the folder of the port's static libraries");
     };
-    println!("cargo::rerun-if-changed={}", library.display());
-    let name = library.file_stem().and_then(|name| name.to_str()).and_then(|name| name.strip_prefix("lib"));
-    let name = name.unwrap_or_else(|| stop("GREEDYTILE_PORT: not a file libNAME.a"));
-    println!("cargo::rustc-link-search=native={}", library.parent().unwrap().display());
-    println!("cargo::rustc-link-lib=static={name}");
+    println!("cargo::rustc-link-search=native={}", folder.display());
+    for name in PORT {
+        let library = folder.join(format!("lib{name}.a"));
+        if !library.is_file() {
+            stop(&format!("GREEDYTILE_PORT: {} is not there; `rt staticlib {name}` makes it", library.display()));
+        }
+        println!("cargo::rerun-if-changed={}", library.display());
+        println!("cargo::rustc-link-lib=static={name}");
+    }
 }
 
 fn stop(why: &str) -> ! {

@@ -18,43 +18,43 @@ use rules::Verdict;
 use rules::World;
 use rules::Written;
 
-pub fn put_word(out: &mut [u32], at: usize, value: u32)
-    ensures { λ _. ⌜ now (out .exit) ≡ put (now (out .entry)) at value ⌝ }
+pub fn put_word(words: &mut [u32], at: usize, word: u32)
+    ensures { λ _. ⌜ now (words .exit) ≡ put (now (words .entry)) at word ⌝ }
 {
-    if at < out.len() {
-        out[at] = value;
+    if at < words.len() {
+        words[at] = word;
     }
 }
 
-pub fn put_long(out: &mut [u64], at: usize, value: u64)
-    ensures { λ _. ⌜ now (out .exit) ≡ put (now (out .entry)) at value ⌝ }
+pub fn put_long(longs: &mut [u64], at: usize, long: u64)
+    ensures { λ _. ⌜ now (longs .exit) ≡ put (now (longs .entry)) at long ⌝ }
 {
-    if at < out.len() {
-        out[at] = value;
+    if at < longs.len() {
+        longs[at] = long;
     }
 }
 
-pub fn put_float(out: &mut [f64], at: usize, value: f64)
-    ensures { λ _. ⌜ now (out .exit) ≡ put (now (out .entry)) at value ⌝ }
+pub fn put_float(floats: &mut [f64], at: usize, float: f64)
+    ensures { λ _. ⌜ now (floats .exit) ≡ put (now (floats .entry)) at float ⌝ }
 {
-    if at < out.len() {
-        out[at] = value;
+    if at < floats.len() {
+        floats[at] = float;
     }
 }
 
-pub fn put_byte(out: &mut [u8], at: usize, value: u8)
-    ensures { λ _. ⌜ now (out .exit) ≡ put (now (out .entry)) at value ⌝ }
+pub fn put_byte(bytes: &mut [u8], at: usize, byte: u8)
+    ensures { λ _. ⌜ now (bytes .exit) ≡ put (now (bytes .entry)) at byte ⌝ }
 {
-    if at < out.len() {
-        out[at] = value;
+    if at < bytes.len() {
+        bytes[at] = byte;
     }
 }
 
-pub fn put_signed(out: &mut [i32], at: usize, value: i32)
-    ensures { λ _. ⌜ now (out .exit) ≡ put (now (out .entry)) at value ⌝ }
+pub fn put_signed(numbers: &mut [i32], at: usize, number: i32)
+    ensures { λ _. ⌜ now (numbers .exit) ≡ put (now (numbers .entry)) at number ⌝ }
 {
-    if at < out.len() {
-        out[at] = value;
+    if at < numbers.len() {
+        numbers[at] = number;
     }
 }
 
@@ -107,9 +107,9 @@ pub fn listed(answer: Listing, out: &mut [u32]) -> u32
     ensures { λ r. ⌜ Gives (listingNumber answer) (listingLeft answer (now (out .entry))) r (now (out .exit)) ⌝ }
 {
     match answer {
-        Listing::Colours(set) => {
-            put_word(out, 0, set.bits);
-            put_word(out, 1, set.size);
+        Listing::Colours(colours) => {
+            put_word(out, 0, colours.bits);
+            put_word(out, 1, colours.size);
             0
         }
         Listing::Refused(n) => n as u32,
@@ -120,8 +120,8 @@ pub fn extracted(answer: TileNumber, out: &mut [u64]) -> u32
     ensures { λ r. ⌜ Gives (tilesNumber answer) (tilesLeft answer (now (out .entry))) r (now (out .exit)) ⌝ }
 {
     match answer {
-        TileNumber::Tiles(k) => {
-            put_long(out, 0, k as u64);
+        TileNumber::Tiles(tiles) => {
+            put_long(out, 0, tiles as u64);
             0
         }
         TileNumber::Refused(n) => n as u32,

@@ -45,7 +45,7 @@ pub extern "C" fn desk_fitting_colours(
 ) -> u32
     ensures { λ r. ⌜ Gives (listingNumber (listing (now (pieces .entry)) rows cols (now (tiles .entry)) count (world row col) (offsetBy down across))) (coloursLeft (listing (now (pieces .entry)) rows cols (now (tiles .entry)) count (world row col) (offsetBy down across)) (now (found .entry))) r (now (found .exit)) ⌝ }
 {
-    let position = world_at(row, col);
+    let listed_at = world_at(row, col);
     let offset = offset_at(down, across);
     let answer = fit::compute_viable_tiles_at_position(
         pieces,
@@ -53,7 +53,7 @@ pub extern "C" fn desk_fitting_colours(
         cols,
         tiles,
         count,
-        position,
+        listed_at,
         offset,
     );
     found_colours(answer, found)
@@ -76,7 +76,7 @@ pub extern "C" fn desk_lay(
 ) -> u32
     ensures { λ r. ⌜ Gives (layNumber (layAnswer (refusal (layChecks (job rows cols count (now (tiles .entry)) (offsetBy down across)) (board (now (pieces .entry)) (now (weights .entry)) (now (counts .entry))) (world row col) colour)))) (afterLay (job rows cols count (now (tiles .entry)) (offsetBy down across)) (board (now (pieces .entry)) (now (weights .entry)) (now (counts .entry))) (world row col) colour) r (board (now (pieces .exit)) (now (weights .exit)) (now (counts .exit))) ⌝ }
 {
-    let position = world_at(row, col);
+    let laid_at = world_at(row, col);
     let offset = offset_at(down, across);
     let answer = board::lay(
         pieces,
@@ -86,7 +86,7 @@ pub extern "C" fn desk_lay(
         cols,
         tiles,
         count,
-        position,
+        laid_at,
         offset,
         colour,
     );
@@ -109,7 +109,7 @@ pub extern "C" fn desk_lift(
 ) -> u32
     ensures { λ r. ⌜ Gives (liftNumber (liftAnswer (refusal (liftChecks (job rows cols count (now (tiles .entry)) (offsetBy down across)) (board (now (pieces .entry)) (now (weights .entry)) (now (counts .entry))) (world row col))))) (afterLift (job rows cols count (now (tiles .entry)) (offsetBy down across)) (board (now (pieces .entry)) (now (weights .entry)) (now (counts .entry))) (world row col)) r (board (now (pieces .exit)) (now (weights .exit)) (now (counts .exit))) ⌝ }
 {
-    let position = world_at(row, col);
+    let lifted_at = world_at(row, col);
     let offset = offset_at(down, across);
     let answer = board::lift(
         pieces,
@@ -119,7 +119,7 @@ pub extern "C" fn desk_lift(
         cols,
         tiles,
         count,
-        position,
+        lifted_at,
         offset,
     );
     lifted(answer)

@@ -6,8 +6,8 @@ use borrow.Author.Needs.{needs}
 use Rattle.boundary.proofs.put_byte.Statement.{statement}
 use Rattle.boundary.proofs.put_byte.Tie as tie
 
-slice-write-out : tie.Need-slice-write-out
-slice-write-out c = search needs
+slice-write-bytes : tie.Need-slice-write-bytes
+slice-write-bytes c = search needs
 
 same-length : tie.Need-same-length
 same-length c = search needs
@@ -21,4 +21,4 @@ unfolding put
 returns-2 c = sym (set-past _ _ _ (c .if1 .left))
 
 pub put-byte-spec : {M : Type 1} → statement M
-put-byte-spec = tie.close (tie.spec slice-write-out same-length returns returns-2)
+put-byte-spec = tie.close (tie.spec slice-write-bytes same-length returns returns-2)

@@ -6,11 +6,11 @@ use borrow.Author.Needs.{needs}
 use Rattle.boundary.proofs.put_float.Statement.{statement}
 use Rattle.boundary.proofs.put_float.Tie as tie
 
-mul-out : tie.Need-mul-out
-mul-out c = search needs
+mul-floats : tie.Need-mul-floats
+mul-floats c = search needs
 
-slice-write-out : tie.Need-slice-write-out
-slice-write-out c = search needs
+slice-write-floats : tie.Need-slice-write-floats
+slice-write-floats c = search needs
 
 same-length : tie.Need-same-length
 same-length c = search needs
@@ -24,4 +24,4 @@ unfolding put
 returns-2 c = sym (set-past _ _ _ (c .if1 .left))
 
 pub put-float-spec : {M : Type 1} → statement M
-put-float-spec = tie.close (tie.spec mul-out slice-write-out same-length returns returns-2)
+put-float-spec = tie.close (tie.spec mul-floats slice-write-floats same-length returns returns-2)

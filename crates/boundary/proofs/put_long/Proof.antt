@@ -6,11 +6,11 @@ use borrow.Author.Needs.{needs}
 use Rattle.boundary.proofs.put_long.Statement.{statement}
 use Rattle.boundary.proofs.put_long.Tie as tie
 
-mul-out : tie.Need-mul-out
-mul-out c = search needs
+mul-longs : tie.Need-mul-longs
+mul-longs c = search needs
 
-slice-write-out : tie.Need-slice-write-out
-slice-write-out c = search needs
+slice-write-longs : tie.Need-slice-write-longs
+slice-write-longs c = search needs
 
 same-length : tie.Need-same-length
 same-length c = search needs
@@ -24,4 +24,4 @@ unfolding put
 returns-2 c = sym (set-past _ _ _ (c .if1 .left))
 
 pub put-long-spec : {M : Type 1} → statement M
-put-long-spec = tie.close (tie.spec mul-out slice-write-out same-length returns returns-2)
+put-long-spec = tie.close (tie.spec mul-longs slice-write-longs same-length returns returns-2)

@@ -6,11 +6,11 @@ use borrow.Author.Needs.{needs}
 use Rattle.boundary.proofs.put_signed.Statement.{statement}
 use Rattle.boundary.proofs.put_signed.Tie as tie
 
-mul-value : tie.Need-mul-value
-mul-value c = search needs
+mul-number : tie.Need-mul-number
+mul-number c = search needs
 
-slice-set-from-value : tie.Need-slice-set-from-value
-slice-set-from-value c = search needs
+slice-set-from-number : tie.Need-slice-set-from-number
+slice-set-from-number c = search needs
 
 same-length : tie.Need-same-length
 same-length c = search needs
@@ -24,4 +24,4 @@ unfolding put
 returns-2 c = sym (set-past _ _ _ (c .if1 .left))
 
 pub put-signed-spec : {M : Type 1} → statement M
-put-signed-spec = tie.close (tie.spec mul-value slice-set-from-value same-length returns returns-2)
+put-signed-spec = tie.close (tie.spec mul-number slice-set-from-number same-length returns returns-2)

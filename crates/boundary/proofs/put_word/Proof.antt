@@ -6,11 +6,11 @@ use borrow.Author.Needs.{needs}
 use Rattle.boundary.proofs.put_word.Statement.{statement}
 use Rattle.boundary.proofs.put_word.Tie as tie
 
-mul-out : tie.Need-mul-out
-mul-out c = search needs
+mul-words : tie.Need-mul-words
+mul-words c = search needs
 
-slice-write-out : tie.Need-slice-write-out
-slice-write-out c = search needs
+slice-write-words : tie.Need-slice-write-words
+slice-write-words c = search needs
 
 same-length : tie.Need-same-length
 same-length c = search needs
@@ -24,4 +24,4 @@ unfolding put
 returns-2 c = sym (set-past _ _ _ (c .if1 .left))
 
 pub put-word-spec : {M : Type 1} → statement M
-put-word-spec = tie.close (tie.spec mul-out slice-write-out same-length returns returns-2)
+put-word-spec = tie.close (tie.spec mul-words slice-write-words same-length returns returns-2)
