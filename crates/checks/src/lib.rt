@@ -2,7 +2,7 @@
 // of the plane it is lent: no loop leaves early, so that the compiler can take many cells at a time.
 ghost use mathlib.Core.Path.{_≡_};
 ghost use mathlib.Core.Bool.{Bool, true, _&&_};
-ghost use Prim.Native.Nat.{_*_, _+_, _≤_};
+ghost use Prim.Native.Nat.{ℕ, _*_, _+_, _≤_, _<_};
 ghost use lib.Dec.{leb};
 ghost use Rattle.base.specs.Counting.{within};
 ghost use Rattle.rules.specs.Tests.{boardSides, sampleSides, hasLength, tileNumber, wholeTiles, colourCount, noneAbove, piecesStored};
@@ -105,19 +105,28 @@ fn and_too(sofar: bool, here: bool) -> bool
     sofar & here
 }
 
-fn byte_up_to(cell: u8, most: u32) -> bool
-    ensures { λ r. ⌜ r ≡ leb cell most ⌝ }
+// The limit as a byte: no byte is above 255, so a larger one tells nothing more.
+fn byte_limit(most: u32) -> u8
+    ensures { λ r. ⌜ ((cell : ℕ) → cell < 256 → leb cell r ≡ leb cell most) ⌝ }
 {
-    cell as u32 <= most
+    if most < 255 { most as u8 } else { 255 }
+}
+
+// On bytes alone, so that the compiler compares sixteen at once.
+fn byte_up_to(cell: u8, limit: u8) -> bool
+    ensures { λ r. ⌜ r ≡ leb cell limit ⌝ }
+{
+    cell <= limit
 }
 
 pub fn no_byte_above(plane: &[u8], most: u32) -> bool
     ensures { λ r. ⌜ r ≡ noneAbove (now (plane .entry)) most ⌝ }
 {
+    let limit = byte_limit(most);
     let mut fine = true;
     let mut k = 0;
     while k < plane.len() {
-        fine = and_too(fine, byte_up_to(plane[k], most));
+        fine = and_too(fine, byte_up_to(plane[k], limit));
         k += 1;
     }
     fine

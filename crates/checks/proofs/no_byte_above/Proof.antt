@@ -1,5 +1,6 @@
--- `checks::no_byte_above` meets its contract. The loop's invariant: the answer so far is the test of every cell passed. Assumes nothing.
-use Prim.Native.Nat.{ℕ, _+_, _-_, _≤_}
+-- `checks::no_byte_above` meets its contract. The loop's invariant: the answer so far is the test of every cell passed. A byte is up to the limit
+-- exactly if it is up to the number asked. Assumes nothing.
+use Prim.Native.Nat.{ℕ, _-_, _≤_, _<_}
 use mathlib.Core.Path.{_≡_, refl, sym, _∙_, ap}
 use lib.ListN.{length, getD}
 use mathlib.Core.Bool.{Bool, _&&_}
@@ -8,15 +9,19 @@ use Rattle.base.specs.Counting.{every}
 use Rattle.base.proofs.Counted.{every-done}
 use Rattle.checks.proofs.Turn.{every-turn}
 use Rattle.rules.specs.Tests.{entryUpTo, noneAbove}
+use native.Mathlib.Omega.{arith}
 use borrow.Author.Needs.{needs}
 use Rattle.checks.proofs.no_byte_above.Statement.{statement}
 use Rattle.checks.proofs.no_byte_above.Tie as tie
 
 abbrev Inv-loop : tie.InvT-loop
-Inv-loop plane most fine₀ k₀ fine k = (k ≤ length plane) × (fine ≡ every k (entryUpTo plane most))
+Inv-loop plane most limit fine₀ k₀ fine k = (k ≤ length plane) × (fine ≡ every k (entryUpTo plane most))
 
 abbrev μ-loop : tie.MeasureT-loop
-μ-loop plane most fine₀ k₀ fine k = length plane - k
+μ-loop plane most limit fine₀ k₀ fine k = length plane - k
+
+byte-limit-requires : tie.Need-byte-limit-requires Inv-loop μ-loop
+byte-limit-requires c κs = search needs
 
 loop-holds : tie.Need-loop-holds Inv-loop μ-loop
 unfolding every
@@ -38,7 +43,9 @@ loop-less : tie.Need-loop-less Inv-loop μ-loop
 loop-less c = search needs
 
 loop-again : tie.Need-loop-again Inv-loop μ-loop
-loop-again c = (search needs, every-turn _ (c .before .before .before .before .loop .inv .1) (c .before .byte-up-to .ensures) (c .and-too .ensures))
+loop-again c =
+    let byte : (i : ℕ) → getD (c .before .before .before .before .before .before .before .args .plane .now) i 0 < 256 = λ i. omega (arith, c .before .before .before .before .before .before .shared-slice-known .given i) in
+    (search needs, every-turn _ (c .before .before .before .before .loop .inv .1) (c .before .byte-up-to .ensures ∙ c .before .before .before .before .before .byte-limit .ensures _ (byte _)) (c .and-too .ensures))
 
 returns : tie.Need-returns Inv-loop μ-loop
 unfolding noneAbove
@@ -50,6 +57,7 @@ no-byte-above-spec =
     (tie.spec
     Inv-loop
     μ-loop
+    byte-limit-requires
     loop-holds
     shared-slice-read-byte-up-to
     byte-up-to-requires
