@@ -1,0 +1,74 @@
+-- What crosses beyond crate boundary's own: a box and pads from their numbers, a tile from a slice, and what an extension, a list of
+-- colours and a store of tiles leave in the slices lent for them.
+use Prim.Native.Nat.{ℕ, _+_}
+use mathlib.Core.List.{List, [], _∷_}
+use lib.ListN.{getD}
+use lib.IntN.{ℤ}
+use Rattle.base.specs.Tables.{tab}
+use Rattle.base.specs.Refusal.{unlessRefused}
+use Rattle.rules.specs.declared.BoundingBox.{BoundingBox}
+use Rattle.rules.specs.declared.Offset.{Offset}
+use Rattle.rules.specs.declared.Pads.{Pads}
+use Rattle.rules.specs.declared.ColourList.{ColourList}
+use Rattle.rules.specs.declared.ExtensionAnswer.{ExtensionAnswer}
+use Rattle.rules.specs.declared.ExtensionAnswer.the-variants as ExtensionAnswer·
+use Rattle.boundary.specs.Boundary.{world, put, digitOf}
+
+-- ---- what goes in
+
+abbrev pub boxOf : ℤ → ℤ → ℤ → ℤ → BoundingBox
+boxOf minrow mincol maxrow maxcol = record { min = world minrow mincol; max = world maxrow maxcol }
+
+abbrev pub padsBy : ℕ → ℕ → ℕ → ℕ → Pads
+padsBy left right top bottom = record { left = left; right = right; top = top; bottom = bottom }
+
+-- the first nine bytes; one that the slice lacks counts as 0
+unfoldable pub nineOf : List ℕ → List ℕ
+nineOf bytes = tab 9 (λ k. getD bytes k 0)
+
+-- ---- what comes back
+
+-- values stored one after another, the first of them at entry i
+unfoldable pub putFrom : {A : Type 0} → ℕ → List A → List A → List A
+putFrom i [] out = out
+putFrom i (x ∷ xs) out = putFrom (i + 1) xs (put out i x)
+
+-- left, right, top, bottom
+abbrev pub padsStored : Pads → List ℕ → List ℕ
+padsStored p out = put (put (put (put out 0 (p .left)) 1 (p .right)) 2 (p .top)) 3 (p .bottom)
+
+-- row, column
+abbrev pub offsetStored : Offset → List ℤ → List ℤ
+offsetStored o out = put (put out 0 (o .0)) 1 (o .1)
+
+-- the slices lent for an extension
+pub record Extended : Type 0 where
+  pub pads : List ℕ
+  pub offset : List ℤ
+  pub needed : List ℕ
+
+abbrev pub extended : List ℕ → List ℤ → List ℕ → Extended
+extended pads offset needed = record { pads = pads; offset = offset; needed = needed }
+
+abbrev pub extensionNumber : ExtensionAnswer → ℕ
+extensionNumber (ExtensionAnswer·.Extension e) = 0
+extensionNumber (ExtensionAnswer·.Refused n) = n
+
+-- the pads, the new offset, and 1 where the grid has to grow, else 0
+abbrev pub extensionLeft : ExtensionAnswer → Extended → Extended
+extensionLeft (ExtensionAnswer·.Extension e) out =
+    extended (padsStored (e .pads) (out .pads)) (offsetStored (e .offset) (out .offset)) (put (out .needed) 0 (digitOf (e .needed)))
+extensionLeft (ExtensionAnswer·.Refused n) out = out
+
+-- the slices lent for bytes and for their number
+pub record Numbered : Type 0 where
+  pub bytes : List ℕ
+  pub number : List ℕ
+
+abbrev pub numbered : List ℕ → List ℕ → Numbered
+numbered bytes number = record { bytes = bytes; number = number }
+
+-- a list's refusal is its number; the colours go over with the entries past them
+abbrev pub coloursLeft : ColourList → Numbered → Numbered
+coloursLeft l out =
+    unlessRefused (l .refused) (numbered (putFrom 0 (l .colours) (out .bytes)) (put (out .number) 0 (l .len))) out

@@ -1,0 +1,102 @@
+// What crosses beyond crate boundary's own: boxes and tiles from numbers and slices, and values of several entries into slices. An entry
+// past the end of a slice is not stored; a refused call stores none.
+ghost use mathlib.Core.Path.{_≡_};
+ghost use lib.ListN.{getD};
+ghost use Rattle.base.specs.Refusal.{Gives};
+ghost use Rattle.harness_tiles.specs.Lent.{boxOf, nineOf, putFrom, padsStored, offsetStored, extended, extensionNumber, extensionLeft, numbered, coloursLeft};
+use boundary::digit;
+use boundary::put_byte;
+use boundary::put_long;
+use boundary::put_signed;
+use boundary::put_word;
+use boundary::world_at;
+use rules::BoundingBox;
+use rules::ColourList;
+use rules::ExtensionAnswer;
+use rules::Offset;
+use rules::Pads;
+
+pub fn box_at(minrow: i32, mincol: i32, maxrow: i32, maxcol: i32) -> BoundingBox
+    ensures { λ r. ⌜ r ≡ boxOf minrow mincol maxrow maxcol ⌝ }
+{
+    BoundingBox {
+        min: world_at(minrow, mincol),
+        max: world_at(maxrow, maxcol),
+    }
+}
+
+fn byte_at(bytes: &[u8], at: usize) -> u8
+    ensures { λ r. ⌜ r ≡ getD (now (bytes .entry)) at 0 ⌝ }
+{
+    if at < bytes.len() { bytes[at] } else { 0 }
+}
+
+pub fn tile_of(bytes: &[u8]) -> [u8; 9]
+    ensures { λ r. ⌜ r ≡ nineOf (now (bytes .entry)) ⌝ }
+{
+    let mut tile = [0u8; 9];
+    let mut k = 0;
+    while k < rules::TILE_CELLS {
+        tile[k] = byte_at(bytes, k);
+        k += 1;
+    }
+    tile
+}
+
+pub fn put_bytes(out: &mut [u8], bytes: &[u8])
+    ensures { λ _. ⌜ now (out .exit) ≡ putFrom 0 (now (bytes .entry)) (now (out .entry)) ⌝ }
+{
+    let mut k = 0;
+    while k < bytes.len() {
+        put_byte(out, k, bytes[k]);
+        k += 1;
+    }
+}
+
+fn put_pads(out: &mut [u64], pads: Pads)
+    ensures { λ _. ⌜ now (out .exit) ≡ padsStored pads (now (out .entry)) ⌝ }
+{
+    put_long(out, 0, pads.left as u64);
+    put_long(out, 1, pads.right as u64);
+    put_long(out, 2, pads.top as u64);
+    put_long(out, 3, pads.bottom as u64);
+}
+
+fn put_offset(out: &mut [i32], offset: Offset)
+    ensures { λ _. ⌜ now (out .exit) ≡ offsetStored offset (now (out .entry)) ⌝ }
+{
+    put_signed(out, 0, offset.0);
+    put_signed(out, 1, offset.1);
+}
+
+pub fn extension_told(
+    answer: ExtensionAnswer,
+    pads: &mut [u64],
+    offset: &mut [i32],
+    needed: &mut [u32],
+) -> u32
+    ensures { λ r. ⌜ Gives (extensionNumber answer) (extensionLeft answer (extended (now (pads .entry)) (now (offset .entry)) (now (needed .entry)))) r (extended (now (pads .exit)) (now (offset .exit)) (now (needed .exit))) ⌝ }
+{
+    match answer {
+        ExtensionAnswer::Extension(info) => {
+            let bit = digit(info.needed);
+            put_pads(pads, info.pads);
+            put_offset(offset, info.offset);
+            put_word(needed, 0, bit);
+            0
+        }
+        ExtensionAnswer::Refused(n) => n as u32,
+    }
+}
+
+pub fn colours_told(list: ColourList, colours: &mut [u8], len: &mut [u64]) -> u32
+    ensures { λ r. ⌜ Gives (list .refused) (coloursLeft list (numbered (now (colours .entry)) (now (len .entry)))) r (numbered (now (colours .exit)) (now (len .exit))) ⌝ }
+{
+    if list.refused != 0 {
+        return list.refused as u32;
+    }
+    let entries = list.colours;
+    put_bytes(colours, &entries);
+    put_long(len, 0, list.len as u64);
+    0
+}
