@@ -16,7 +16,7 @@ use Rattle.rules.specs.declared.ColourList.{ColourList}
 use Rattle.rules.specs.declared.World.{World}
 use Rattle.rules.specs.declared.BoundingBox.{BoundingBox}
 use Rattle.boundary.specs.Boundary.{put}
-use Rattle.harness_tiles.specs.Lent.{boxOf, putFrom, extended, Numbered, numbered, coloursLeft}
+use Rattle.harness_tiles.specs.Lent.{boxOf, putFrom, extended, Bytes, bytesWith, listLeft}
 
 -- one value stored, and what is left to store
 pub put-turn : {A : Type 0} (d : A) (l out after whole : List A) (k : ℕ) → k < length l → after ≡ put out k (getD l k d) → putFrom k (drop k l) out ≡ whole → putFrom (k + 1) (drop (k + 1) l) after ≡ whole
@@ -47,11 +47,11 @@ pub each-slice : {p q : List ℕ} {o u : List ℤ} {n m : List ℕ} → p ≡ q 
 each-slice p o n = rw (p, o, n)
 
 -- a call that writes bytes and answers a number, which is passed on
-pub bytes-told : {A : Type 0} (f : A → ℕ) (g : A → List ℕ → List ℕ) {answer a : A} {left bytes l after : List ℕ} {r : ℕ} → Gives answer left a bytes → Gives (f a) (g a l) r after → Gives (f answer) (numbered left (g answer l)) r (numbered bytes after)
+pub bytes-told : {A : Type 0} (f : A → ℕ) (g : A → List ℕ → List ℕ) {answer a : A} {left bytes l after : List ℕ} {r : ℕ} → Gives answer left a bytes → Gives (f a) (g a l) r after → Gives (f answer) (bytesWith left (g answer l)) r (bytesWith bytes after)
 bytes-told {A = A} f g {answer = answer} {a = a} {left = left} {bytes = bytes} {l = l} {after = after} {r = r} e h =
     record {
       answered = h .answered ∙ ap f (e .answered);
-      leaves = ap₂ numbered (e .leaves) (h .leaves ∙ ap (λ (x : A). g x l) (e .answered));
+      leaves = ap₂ bytesWith (e .leaves) (h .leaves ∙ ap (λ (x : A). g x l) (e .answered));
     }
 
 -- a refused answer, for which nothing was stored
@@ -59,8 +59,8 @@ pub unstored : {A B : Type 0} (f : A → ℕ) (g : A → B → B) {a b : A} {l :
 unstored f g {l = l} {n = n} e z p = subst (λ x. Gives (f x) (g x l) n l) (sym e) (record { answered = sym z; leaves = sym p })
 
 -- a list of colours: refused, nothing is stored; else its entries and its length
-pub colours-refused : (l : ColourList) (out : Numbered) → (l .refused ≡ 0 → ⊥) → Gives (l .refused) (coloursLeft l out) (l .refused) out
+pub colours-refused : (l : ColourList) (out : Bytes) → (l .refused ≡ 0 → ⊥) → Gives (l .refused) (listLeft l out) (l .refused) out
 colours-refused l out h = record { answered = refl; leaves = sym (kept-old (l .refused) _ out h) }
 
-pub colours-stored : (l : ColourList) (out : Numbered) {bytes number : List ℕ} → l .refused ≡ 0 → bytes ≡ putFrom 0 (l .colours) (out .bytes) → number ≡ put (out .number) 0 (l .len) → Gives (l .refused) (coloursLeft l out) 0 (numbered bytes number)
-colours-stored l out e p q = record { answered = sym e; leaves = ap₂ numbered p q ∙ sym (has-new (l .refused) _ out e) }
+pub colours-stored : (l : ColourList) (out : Bytes) {bytes number : List ℕ} → l .refused ≡ 0 → bytes ≡ putFrom 0 (l .colours) (out .bytes) → number ≡ put (out .number) 0 (l .len) → Gives (l .refused) (listLeft l out) 0 (bytesWith bytes number)
+colours-stored l out e p q = record { answered = sym e; leaves = ap₂ bytesWith p q ∙ sym (has-new (l .refused) _ out e) }

@@ -16,9 +16,11 @@ use Rattle.boundary.specs.Boundary.{world, put, digitOf}
 
 -- ---- what goes in
 
+-- the corner of the least row and column, then the other
 abbrev pub boxOf : ℤ → ℤ → ℤ → ℤ → BoundingBox
 boxOf minrow mincol maxrow maxcol = record { min = world minrow mincol; max = world maxrow maxcol }
 
+-- left and right are added to the rows, top and bottom to the columns
 abbrev pub padsBy : ℕ → ℕ → ℕ → ℕ → Pads
 padsBy left right top bottom = record { left = left; right = right; top = top; bottom = bottom }
 
@@ -50,6 +52,7 @@ pub record Extended : Type 0 where
 abbrev pub extended : List ℕ → List ℤ → List ℕ → Extended
 extended pads offset needed = record { pads = pads; offset = offset; needed = needed }
 
+-- 0 where the call is accepted
 abbrev pub extensionNumber : ExtensionAnswer → ℕ
 extensionNumber (ExtensionAnswer·.Extension e) = 0
 extensionNumber (ExtensionAnswer·.Refused n) = n
@@ -61,14 +64,14 @@ extensionLeft (ExtensionAnswer·.Extension e) out =
 extensionLeft (ExtensionAnswer·.Refused n) out = out
 
 -- the slices lent for bytes and for their number
-pub record Numbered : Type 0 where
+pub record Bytes : Type 0 where
   pub bytes : List ℕ
   pub number : List ℕ
 
-abbrev pub numbered : List ℕ → List ℕ → Numbered
-numbered bytes number = record { bytes = bytes; number = number }
+abbrev pub bytesWith : List ℕ → List ℕ → Bytes
+bytesWith bytes number = record { bytes = bytes; number = number }
 
--- a list's refusal is its number; the colours go over with the entries past them
-abbrev pub coloursLeft : ColourList → Numbered → Numbered
-coloursLeft l out =
-    unlessRefused (l .refused) (numbered (putFrom 0 (l .colours) (out .bytes)) (put (out .number) 0 (l .len))) out
+-- the entries of a list, those past its colours too, and its length; its refusal is its number
+abbrev pub listLeft : ColourList → Bytes → Bytes
+listLeft l out =
+    unlessRefused (l .refused) (bytesWith (putFrom 0 (l .colours) (out .bytes)) (put (out .number) 0 (l .len))) out

@@ -3,7 +3,7 @@
 ghost use mathlib.Core.Path.{_≡_};
 ghost use lib.ListN.{getD};
 ghost use Rattle.base.specs.Refusal.{Gives};
-ghost use Rattle.harness_tiles.specs.Lent.{boxOf, nineOf, putFrom, padsStored, offsetStored, extended, extensionNumber, extensionLeft, numbered, coloursLeft};
+ghost use Rattle.harness_tiles.specs.Lent.{boxOf, nineOf, putFrom, padsStored, offsetStored, extended, extensionNumber, extensionLeft, bytesWith, listLeft};
 use boundary::digit;
 use boundary::put_byte;
 use boundary::put_long;
@@ -90,7 +90,7 @@ pub fn extension_told(
 }
 
 pub fn colours_told(list: ColourList, colours: &mut [u8], len: &mut [u64]) -> u32
-    ensures { λ r. ⌜ Gives (list .refused) (coloursLeft list (numbered (now (colours .entry)) (now (len .entry)))) r (numbered (now (colours .exit)) (now (len .exit))) ⌝ }
+    ensures { λ r. ⌜ Gives (list .refused) (listLeft list (bytesWith (now (colours .entry)) (now (len .entry)))) r (bytesWith (now (colours .exit)) (now (len .exit))) ⌝ }
 {
     if list.refused != 0 {
         return list.refused as u32;

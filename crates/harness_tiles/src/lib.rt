@@ -10,7 +10,7 @@ ghost use Rattle.rules.specs.Sets.{membersListed};
 ghost use Rattle.rules.specs.Tiles.{rotated, reflected, membership, extraction, storeAfter};
 ghost use Rattle.copies.specs.Laid.{copyAnswer, copyLeaves};
 ghost use Rattle.boundary.specs.Boundary.{world, offsetBy, setFrom, setNumber, setLeft, verdictNumber, verdictLeft, writtenNumber, tilesNumber, tilesLeft};
-ghost use Rattle.harness_tiles.specs.Lent.{boxOf, padsBy, nineOf, putFrom, extended, extensionNumber, extensionLeft, numbered, coloursLeft};
+ghost use Rattle.harness_tiles.specs.Lent.{boxOf, padsBy, nineOf, putFrom, extended, extensionNumber, extensionLeft, bytesWith, listLeft};
 use boundary::extracted;
 use boundary::offset_at;
 use boundary::set_given;
@@ -135,7 +135,7 @@ pub extern "C" fn port_extend_f64(
 
 #[no_mangle]
 pub extern "C" fn port_set_to_vec(bits: u32, size: u32, colours: &mut [u8], len: &mut [u64]) -> u32
-    ensures { λ r. ⌜ Gives (membersListed (setFrom bits size) .refused) (coloursLeft (membersListed (setFrom bits size)) (numbered (now (colours .entry)) (now (len .entry)))) r (numbered (now (colours .exit)) (now (len .exit))) ⌝ }
+    ensures { λ r. ⌜ Gives (membersListed (setFrom bits size) .refused) (listLeft (membersListed (setFrom bits size)) (bytesWith (now (colours .entry)) (now (len .entry)))) r (bytesWith (now (colours .exit)) (now (len .exit))) ⌝ }
 {
     let list = bitset::to_vec(TileBitset { bits, size });
     lent::colours_told(list, colours, len)
@@ -152,7 +152,7 @@ pub extern "C" fn port_extract_tiles(
     store: &mut [u8],
     out: &mut [u64],
 ) -> u32
-    ensures { λ r. ⌜ Gives (tilesNumber (extraction (now (sample .entry)) rows cols count rotations reflections (now (store .entry)))) (numbered (storeAfter (now (sample .entry)) rows cols count rotations reflections (now (store .entry))) (tilesLeft (extraction (now (sample .entry)) rows cols count rotations reflections (now (store .entry))) (now (out .entry)))) r (numbered (now (store .exit)) (now (out .exit))) ⌝ }
+    ensures { λ r. ⌜ Gives (tilesNumber (extraction (now (sample .entry)) rows cols count rotations reflections (now (store .entry)))) (bytesWith (storeAfter (now (sample .entry)) rows cols count rotations reflections (now (store .entry))) (tilesLeft (extraction (now (sample .entry)) rows cols count rotations reflections (now (store .entry))) (now (out .entry)))) r (bytesWith (now (store .exit)) (now (out .exit))) ⌝ }
 {
     let answer = tiles::extract_tiles(sample, rows, cols, count, rotations, reflections, store);
     extracted(answer, out)

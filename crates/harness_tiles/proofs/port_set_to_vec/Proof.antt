@@ -1,7 +1,7 @@
 -- `harness_tiles::port_set_to_vec` meets its contract: the answer by its definition, passed on. Assumes nothing.
 use Rattle.rules.specs.declared.ColourList.{ColourList}
 use Rattle.boundary.proofs.Back.{passed-on}
-use Rattle.harness_tiles.specs.Lent.{coloursLeft}
+use Rattle.harness_tiles.specs.Lent.{listLeft}
 use borrow.Author.Needs.{needs}
 use Rattle.harness_tiles.proofs.port_set_to_vec.Statement.{statement}
 use Rattle.harness_tiles.proofs.port_set_to_vec.Tie as tie
@@ -19,7 +19,7 @@ same-length-2 : tie.Need-same-length-2
 same-length-2 c = search needs
 
 returns : tie.Need-returns
-returns c = passed-on (λ (l : ColourList). l .refused) coloursLeft (c .before .before .before .before .before .before .before .to-vec .ensures) (c .before .before .before .before .colours-told .ensures)
+returns c = passed-on (λ (l : ColourList). l .refused) listLeft (c .before .before .before .before .before .before .before .to-vec .ensures) (c .before .before .before .before .colours-told .ensures)
 
 pub port-set-to-vec-spec : {M : Type 1} → statement M
 port-set-to-vec-spec =

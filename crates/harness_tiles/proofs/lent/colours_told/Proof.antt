@@ -1,6 +1,6 @@
 -- `harness_tiles::lent::colours_told` meets its contract: a refusal stores nothing, else the entries and the length. Assumes nothing.
 
-use Rattle.harness_tiles.specs.Lent.{numbered}
+use Rattle.harness_tiles.specs.Lent.{bytesWith}
 use Rattle.harness_tiles.proofs.Stored.{colours-refused, colours-stored}
 use borrow.Author.Needs.{needs}
 use Rattle.harness_tiles.proofs.lent.colours_told.Statement.{statement}
@@ -10,7 +10,7 @@ cast-result : tie.Need-cast-result
 cast-result c = search needs
 
 returns : tie.Need-returns
-returns c = let a = c .before .before .before .before .before .args in colours-refused (a .list) (numbered (a .colours .now) (a .len .now)) (c .before .if1 .taken)
+returns c = let a = c .before .before .before .before .before .args in colours-refused (a .list) (bytesWith (a .colours .now) (a .len .now)) (c .before .if1 .taken)
 
 slice-aggregate-put-bytes : tie.Need-slice-aggregate-put-bytes
 slice-aggregate-put-bytes c = search needs
@@ -30,7 +30,7 @@ same-length-2 c = search needs
 returns-2 : tie.Need-returns-2
 returns-2 c =
     let a = c .before .before .before .before .before .before .before .before .before .before .before .before .before .before .args in
-    colours-stored (a .list) (numbered (a .colours .now) (a .len .now)) (c .before .before .before .before .before .before .before .before .before .before .if1 .left) (c .before .before .before .before .before .before .put-bytes .ensures) (c .before .before .put-long .ensures)
+    colours-stored (a .list) (bytesWith (a .colours .now) (a .len .now)) (c .before .before .before .before .before .before .before .before .before .before .if1 .left) (c .before .before .before .before .before .before .put-bytes .ensures) (c .before .before .put-long .ensures)
 
 pub colours-told-spec : {M : Type 1} → statement M
 colours-told-spec =
