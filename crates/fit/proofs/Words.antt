@@ -3,7 +3,7 @@
 --     word-ext, word-lt, word-join, word-none    the number of some cells
 --     pair-is, joined, from-first    the cells of a list from one on
 --     word-eq, and-word    comparison and `&`
---     masked-fits    the fit test
+--     masked-fits    the fit test; left-there, ninth-decides its two ways
 -- Assumes nothing.
 use Prim.Native.Nat.{ℕ, zero, suc, _+_, _*_, _/_, _%_, _^_, _<_}
 use mathlib.Core.Path.{_≡_, refl, sym, _∙_, ap, ap₂, subst}
@@ -11,7 +11,7 @@ use mathlib.Core.Bool.{Bool, true, false, _&&_, _||_}
 use mathlib.Core.List.{List}
 use native.Mathlib.Nat.{lt-suc-self, le-step, add-suc, add-zero, zero-add, mul-assoc, add-assoc, add-mul, mod-eq-of-lt}
 use native.Mathlib.Omega.{arith}
-use borrow.Author.Tests.{eqb-true, eq-eqb}
+use borrow.Author.Tests.{eqb-true, eq-eqb, ne-eqb}
 use lib.Arith.{digits-lt, digits-div, digits-mod}
 use lib.Bits.{bitAnd, and-block, and-mask, and-zero-l, and-zero-r, and-lt}
 use lib.Dec.{eqb}
@@ -142,3 +142,16 @@ unfolding every
 bare-cells window k =
     ap (λ (b : Bool). b && eqb (getD window 8 0) 0)
     (ap (λ (z : ℕ). eqb (word 8 (λ i. getD window i 0)) z) (sym (word-none 8)) ∙ word-eq 8 (λ i. getD window i 0) (λ i. 0) (λ i l. k .low i (omega arith)) (λ i l. omega arith))
+
+-- a tile that differs within the first eight cells does not fit; where it does not differ there, the ninth decides
+pub left-there : (tiles window mask : List ℕ) (n : ℕ) → Masked window mask → ((i : ℕ) → getD tiles i 0 < 256)
+    → (bitAnd (word 8 (λ i. getD tiles (n * 9 + i) 0)) (word 8 (λ i. getD mask i 0)) ≡ word 8 (λ i. getD window i 0) → ⊥)
+    → false ≡ fitsTile tiles (λ i. getD window i 0) n
+left-there tiles window mask n k low h =
+    sym (ap (λ (b : Bool). b && eqb (bitAnd (getD tiles (n * 9 + 8) 0) (getD mask 8 0)) (getD window 8 0)) (ne-eqb _ _ h)) ∙ masked-fits tiles window mask n k low
+
+pub ninth-decides : (tiles window mask : List ℕ) (n : ℕ) → Masked window mask → ((i : ℕ) → getD tiles i 0 < 256)
+    → bitAnd (word 8 (λ i. getD tiles (n * 9 + i) 0)) (word 8 (λ i. getD mask i 0)) ≡ word 8 (λ i. getD window i 0)
+    → eqb (bitAnd (getD tiles (n * 9 + 8) 0) (getD mask 8 0)) (getD window 8 0) ≡ fitsTile tiles (λ i. getD window i 0) n
+ninth-decides tiles window mask n k low h =
+    sym (ap (λ (b : Bool). b && eqb (bitAnd (getD tiles (n * 9 + 8) 0) (getD mask 8 0)) (getD window 8 0)) (eq-eqb _ _ h)) ∙ masked-fits tiles window mask n k low

@@ -87,16 +87,17 @@ pub fn masks_for(window: &[u8; 9]) -> [u8; 9]
     masks
 }
 
-// Tile n fits the window: its cells, where the window is laid, are the window's. All nine are compared at once, with no branch.
+// Tile n fits the window: its cells, where the window is laid, are the window's. Eight are compared at once; most tiles are left there.
 pub fn tile_fits(tiles: &[u8], n: usize, window: &[u8; 9], mask: &[u8; 9]) -> bool
     requires { ⌜ n * 9 + 9 ≤ length (now tiles) ⌝ }
     requires { ⌜ Masked (now window) (now mask) ⌝ }
     ensures { λ r. ⌜ r ≡ fitsTile (now (tiles .entry)) (λ i. getD (now (window .entry)) i 0) n ⌝ }
 {
     let at = n * rules::TILE_CELLS;
-    let first = (eight(tiles, at) & eight(mask, 0)) == eight(window, 0);
-    let last = (tiles[at + 8] & mask[8]) == window[8];
-    first & last
+    if (eight(tiles, at) & eight(mask, 0)) != eight(window, 0) {
+        return false;
+    }
+    (tiles[at + 8] & mask[8]) == window[8]
 }
 
 // No piece lies in the window.

@@ -1,10 +1,11 @@
 -- `fit::pattern::tile_fits` meets its contract: eight cells read as one number, and the ninth, compare as the fit test does. Assumes nothing.
 use Prim.Native.Nat.{_+_, _*_}
-use mathlib.Core.Path.{_≡_, _∙_}
+use mathlib.Core.Path.{_≡_, sym, _∙_}
 use native.Mathlib.Omega.{arith}
 use lib.ListN.{getD}
+use lib.Bits.{bitAnd}
 use Rattle.fit.specs.Words.{word}
-use Rattle.fit.proofs.Words.{from-first, masked-fits}
+use Rattle.fit.proofs.Words.{from-first, left-there, ninth-decides}
 use borrow.Author.Needs.{needs}
 use Rattle.fit.proofs.pattern.tile_fits.Statement.{statement}
 use Rattle.fit.proofs.pattern.tile_fits.Tie as tie
@@ -21,24 +22,31 @@ eight-requires-2 c κs = search needs
 eight-requires-3 : tie.Need-eight-requires-3
 eight-requires-3 c κs = search needs
 
-add-last : tie.Need-add-last
-add-last c = search needs
-
-shared-slice-read-last : tie.Need-shared-slice-read-last
-shared-slice-read-last c = search needs
-
-element-copy-out-last : tie.Need-element-copy-out-last
-element-copy-out-last c = search needs
-
-element-copy-out-last-2 : tie.Need-element-copy-out-last-2
-element-copy-out-last-2 c = search needs
-
 returns : tie.Need-returns
-returns c = let a = c .before .before .before .before .before .before .before .before .before .args in
-    let p : c .before .before .before .before .before .before .before .eight .result ≡ word 8 (λ i. getD (a .tiles .now) (a .n * 9 + i) 0) = c .before .before .before .before .before .before .before .eight .ensures in
-    let q : c .before .before .before .before .before .eight2 .result ≡ word 8 (λ i. getD (a .mask .now) i 0) = c .before .before .before .before .before .eight2 .ensures ∙ from-first 8 (a .mask .now) in
-    let r : c .before .before .before .eight3 .result ≡ word 8 (λ i. getD (a .window .now) i 0) = c .before .before .before .eight3 .ensures ∙ from-first 8 (a .window .now) in
-    rw (p, q, r) (masked-fits (a .tiles .now) (a .window .now) (a .mask .now) (a .n) (c .before .before .before .before .before .before .before .before .before .pre .1) (λ i. omega (arith, c .before .before .before .before .before .before .before .before .shared-slice-known .given i)))
+returns c = let a = c .before .before .before .before .before .before .before .args in
+    let p : c .before .before .before .before .before .eight .result ≡ word 8 (λ i. getD (a .tiles .now) (a .n * 9 + i) 0) = c .before .before .before .before .before .eight .ensures in
+    let q : c .before .before .before .eight2 .result ≡ word 8 (λ i. getD (a .mask .now) i 0) = c .before .before .before .eight2 .ensures ∙ from-first 8 (a .mask .now) in
+    let r : c .before .eight3 .result ≡ word 8 (λ i. getD (a .window .now) i 0) = c .before .eight3 .ensures ∙ from-first 8 (a .window .now) in
+    left-there (a .tiles .now) (a .window .now) (a .mask .now) (a .n) (c .before .before .before .before .before .before .before .pre .1) (λ i. omega (arith, c .before .before .before .before .before .before .shared-slice-known .given i)) (rw (sym p, sym q, sym r) (c .if1 .taken))
+
+add-result : tie.Need-add-result
+add-result c = search needs
+
+shared-slice-read-result : tie.Need-shared-slice-read-result
+shared-slice-read-result c = search needs
+
+element-copy-out-result : tie.Need-element-copy-out-result
+element-copy-out-result c = search needs
+
+element-copy-out-result-2 : tie.Need-element-copy-out-result-2
+element-copy-out-result-2 c = search needs
+
+returns-2 : tie.Need-returns-2
+returns-2 c = let a = c .before .before .before .before .before .before .before .before .before .before .args in
+    let p : c .before .before .before .before .before .before .before .before .eight .result ≡ word 8 (λ i. getD (a .tiles .now) (a .n * 9 + i) 0) = c .before .before .before .before .before .before .before .before .eight .ensures in
+    let q : c .before .before .before .before .before .before .eight2 .result ≡ word 8 (λ i. getD (a .mask .now) i 0) = c .before .before .before .before .before .before .eight2 .ensures ∙ from-first 8 (a .mask .now) in
+    let r : c .before .before .before .before .eight3 .result ≡ word 8 (λ i. getD (a .window .now) i 0) = c .before .before .before .before .eight3 .ensures ∙ from-first 8 (a .window .now) in
+    ninth-decides (a .tiles .now) (a .window .now) (a .mask .now) (a .n) (c .before .before .before .before .before .before .before .before .before .before .pre .1) (λ i. omega (arith, c .before .before .before .before .before .before .before .before .before .shared-slice-known .given i)) (rw (sym p, sym q, sym r) (c .before .before .before .if1 .left))
 
 pub tile-fits-spec : {M : Type 1} → statement M
 tile-fits-spec =
@@ -48,8 +56,9 @@ tile-fits-spec =
     eight-requires
     eight-requires-2
     eight-requires-3
-    add-last
-    shared-slice-read-last
-    element-copy-out-last
-    element-copy-out-last-2
-    returns)
+    returns
+    add-result
+    shared-slice-read-result
+    element-copy-out-result
+    element-copy-out-result-2
+    returns-2)
