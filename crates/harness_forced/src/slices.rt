@@ -170,12 +170,7 @@ pub fn added_given(
 }
 
 // The position that is taken, and that there is one.
-fn put_taken(
-    position: ForcedPosition,
-    taken: &mut [i32],
-    colour: &mut [u32],
-    found: &mut [u32],
-)
+fn put_taken(position: ForcedPosition, taken: &mut [i32], colour: &mut [u32], found: &mut [u32])
     ensures { λ _. ⌜ (now (taken .exit) ≡ placeStored position 0 (now (taken .entry))) × (now (colour .exit) ≡ put (now (colour .entry)) 0 (position .colour)) × (now (found .exit) ≡ put (now (found .entry)) 0 1) ⌝ }
 {
     put_entry(position, 0, taken, colour);
