@@ -26,6 +26,15 @@ use Rattle.rules.specs.declared.Written.{Written}
 use Rattle.rules.specs.declared.Written.the-variants as Written·
 use Rattle.boundary.specs.Boundary.{put, world}
 
+-- the slices that hold positions
+pub record Slices : Type 0 where
+  pub coordinates : List ℤ
+  pub colours : List ℕ
+  pub len : List ℕ
+
+abbrev pub slices : List ℤ → List ℕ → List ℕ → Slices
+slices coordinates colours len = record { coordinates = coordinates; colours = colours; len = len }
+
 -- ---- what goes in
 
 unfoldable pub entryAt : List ℤ → List ℕ → ℕ → ForcedPosition
@@ -35,6 +44,10 @@ entryAt coordinates colours i =
 unfoldable pub queueFrom : List ℤ → List ℕ → ℕ → ForcedPipeline
 queueFrom coordinates colours len = record { entries = tab queueRoom (entryAt coordinates colours); len = len }
 
+-- the queue that the slices hold
+abbrev pub queueIn : Slices → ForcedPipeline
+queueIn s = queueFrom (s .coordinates) (s .colours) (getD (s .len) 0 0)
+
 unfoldable pub positionsFrom : List ℤ → List ℕ → ℕ → ForcedPositions
 positionsFrom coordinates colours len = record { entries = tab addedRoom (entryAt coordinates colours); len = len }
 
@@ -43,15 +56,6 @@ unfoldable pub boundsFrom : Bool → World → World → GenerationBounds
 boundsFrom within least most = pick within (Within (record { min = least; max = most })) Unbounded
 
 -- ---- what comes back
-
--- the slices that hold positions
-pub record Slices : Type 0 where
-  pub coordinates : List ℤ
-  pub colours : List ℕ
-  pub len : List ℕ
-
-abbrev pub slices : List ℤ → List ℕ → List ℕ → Slices
-slices coordinates colours len = record { coordinates = coordinates; colours = colours; len = len }
 
 -- the place of an entry stored as entry i
 abbrev pub placeStored : ForcedPosition → ℕ → List ℤ → List ℤ
@@ -76,10 +80,6 @@ queueStored q s = stored queueRoom (q .entries) (q .len) s
 
 abbrev pub positionsStored : ForcedPositions → Slices → Slices
 positionsStored p s = stored addedRoom (p .entries) (p .len) s
-
--- the queue that the slices hold
-abbrev pub queueIn : Slices → ForcedPipeline
-queueIn s = queueFrom (s .coordinates) (s .colours) (getD (s .len) 0 0)
 
 -- adding: the queue as it is then; a refused call stores nothing
 abbrev pub addedLeft : Written → ForcedPipeline → Slices → Slices
