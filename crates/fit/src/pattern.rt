@@ -79,10 +79,10 @@ pub fn masks_for(window: &[u8; 9]) -> [u8; 9]
     ensures { λ r. ⌜ r ≡ tab 9 (λ i. maskOf (getD (now (window .entry)) i 0)) ⌝ }
 {
     let mut masks = [0u8; 9];
-    let mut i = 0;
-    while i < rules::TILE_CELLS {
-        masks[i] = mask_for(window[i]);
-        i += 1;
+    let mut k = 0;
+    while k < rules::TILE_CELLS {
+        masks[k] = mask_for(window[k]);
+        k += 1;
     }
     masks
 }

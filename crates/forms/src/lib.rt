@@ -47,19 +47,19 @@ fn window_tile(sample: &[u8], rows: usize, cols: usize, r: usize, c: usize) -> [
 }
 
 // Old (2-j, i) at (i, j).
-pub fn rotate_90(tile: [u8; 9]) -> [u8; 9]
-    ensures { λ t. ⌜ t ≡ rotated tile ⌝ }
+pub fn rotate_90(old: [u8; 9]) -> [u8; 9]
+    ensures { λ t. ⌜ t ≡ rotated old ⌝ }
 {
     [
-        tile[6],
-        tile[3],
-        tile[0],
-        tile[7],
-        tile[4],
-        tile[1],
-        tile[8],
-        tile[5],
-        tile[2],
+        old[6],
+        old[3],
+        old[0],
+        old[7],
+        old[4],
+        old[1],
+        old[8],
+        old[5],
+        old[2],
     ]
 }
 

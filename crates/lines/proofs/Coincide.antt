@@ -7,7 +7,7 @@ use Rattle.base.proofs.Chain.{coincide}
 use Rattle.lines.specs.Lines.{decimal, numberLine, planeText}
 use Rattle.lines.specs.Pages.{Writes}
 
-writes-coincide : {t x y z : List ℕ} {at r s : ℕ} → Writes t at x r y → Writes t at x s z → (r ≡ s) × (y ≡ z)
+pub writes-coincide : {t x y z : List ℕ} {at r s : ℕ} → Writes t at x r y → Writes t at x s z → (r ≡ s) × (y ≡ z)
 writes-coincide p q = (coincide (p .place) (q .place), coincide (p .bytes) (q .bytes))
 
 pub put-number-coincides : {x y z : List ℕ} {at r s : ℕ} (n : ℕ) → Writes (decimal n) at x r y → Writes (decimal n) at x s z → (r ≡ s) × (y ≡ z)

@@ -3,3 +3,4 @@ pub mod Setting
 pub mod Scanned
 pub mod Telling
 pub mod Whole
+pub mod Coincide

@@ -95,14 +95,14 @@ fn add_position(before: ForcedPipeline, position: ForcedPosition) -> Grown
     }
     let mut entries = before.entries;
     entries[n] = position;
-    let grown = ForcedPipeline {
+    let longer = ForcedPipeline {
         entries,
         len: n + 1,
     };
     let answer = Written::Done;
     Grown {
         answer,
-        queue: grown,
+        queue: longer,
     }
 }
 

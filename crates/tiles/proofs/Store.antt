@@ -1,6 +1,6 @@
 -- Laws of tile lists and of the store that they are written to, as the code meets them.
 --     held, no-room, put      what adding one tile answers and leaves
---     Kept, kept-none, kept-on   the loop over a run of tiles: how many are kept of those so far, and what the store holds
+--     Kept, kept-from, kept-then   the loop over a run of tiles: how many are kept of those so far, and what the store holds
 --     full-end, done-end      the two ways out of it
 -- Assumes nothing.
 use Prim.Native.Nat.{ℕ, zero, suc, _+_, _-_, _*_, _/_, _≤_, _<_}
@@ -158,7 +158,7 @@ pub record Kept (f : ℕ → List ℕ) (d : List ℕ) (v n : ℕ) (x heads nexts
   pub stored : x ≡ storeWith (distinct v f) d
   pub chained : Chained (distinct v f) heads nexts
 
-pub kept-none : (f : ℕ → List ℕ) (d : List ℕ) → Kept f d 0 0 d (replicate buckets 0) (replicate maxTiles 0)
+kept-none : (f : ℕ → List ℕ) (d : List ℕ) → Kept f d 0 0 d (replicate buckets 0) (replicate maxTiles 0)
 unfolding distinct
 kept-none f d =
     record {
@@ -169,6 +169,9 @@ kept-none f d =
       stored = sym (store-all [] d (omega arith));
       chained = chained-none;
     }
+
+pub kept-from : (f : ℕ → List ℕ) (d : List ℕ) (v : ℕ) → v ≡ 0 → Kept f d v 0 d (replicate buckets 0) (replicate maxTiles 0)
+kept-from f d v e = rw e (kept-none f d)
 
 module _ (f : ℕ → List ℕ) (d : List ℕ) (v n : ℕ) (x heads nexts : List ℕ) (k : Kept f d v n x heads nexts) where
   -- the tiles kept so far are those at the store's head
@@ -194,7 +197,7 @@ module _ (f : ℕ → List ℕ) (d : List ℕ) (v n : ℕ) (x heads nexts : List
         ∙ ap (λ (z : List ℕ). storeWith (distinct (v + 1) f) z) (k .stored)
         ∙ store-over (distinct v f) (distinct (v + 1) f) d (omega (arith, k)) (omega (arith, k, kept-size))
 
-    pub kept-on : r ≤ tilesIn d → length y ≡ length d → Kept f d (v + 1) r y heads′ nexts′
+    kept-on : r ≤ tilesIn d → length y ≡ length d → Kept f d (v + 1) r y heads′ nexts′
     kept-on h e =
         record {
           whole = omega (arith, kept-count, kept-size);
@@ -204,6 +207,9 @@ module _ (f : ℕ → List ℕ) (d : List ℕ) (v n : ℕ) (x heads nexts : List
           stored = kept-store;
           chained = rw (sym is-more) (told .chained (omega (arith, k .same)));
         }
+
+    pub kept-then : r ≤ tilesIn d → length y ≡ length d → (w : ℕ) → v + 1 ≡ w → Kept f d w r y heads′ nexts′
+    kept-then h e w q = rw q at (kept-on h e)
 
     -- where they no longer fit, what the store holds is final
     kept-full : (m : ℕ) → v + 1 ≤ m → tilesIn d < r → (tilesIn d < tilesIn (distinct m f)) × (y ≡ storeWith (distinct m f) d)

@@ -49,7 +49,8 @@ fn add_tile(
     n + 1
 }
 
-// Gathers the distinct tiles of a sample that passed its checks. The store is read no further than the tiles written to it.
+// Gathers the distinct tiles of a sample that passed its checks, from the first variant on, so that the first of equal tiles is kept. The
+// store is read no further than the tiles written to it.
 fn gather(
     store: &mut [u8],
     source: &[u8],
@@ -66,15 +67,15 @@ fn gather(
     let mut heads = [0u16; 4096];
     let mut nexts = [0u16; 7200];
     let mut n = 0;
-    let mut v = 0;
-    while v < total {
-        let tile = forms::variant_of(source, rows, cols, rotations, reflections, v);
+    let mut left = total;
+    while 0 < left {
+        let tile = forms::variant_of(source, rows, cols, rotations, reflections, total - left);
         let kept = add_tile(store, &mut heads, &mut nexts, n, &tile);
         if room < kept {
             return TileNumber::Refused(rules::ROOM);
         }
         n = kept;
-        v += 1;
+        left -= 1;
     }
     TileNumber::Tiles(n)
 }

@@ -4,22 +4,25 @@ use mathlib.Core.Path.{_∙_}
 use native.Mathlib.Omega.{arith}
 use Rattle.rules.specs.Tiles.{variant, extracted}
 use Rattle.forms.proofs.Variants.{variant-nine}
-use Rattle.tiles.proofs.Store.{Kept, kept-none, kept-chained, kept-on, full-end, done-end}
+use Rattle.tiles.proofs.Store.{Kept, kept-from, kept-chained, kept-then, full-end, done-end}
 use borrow.Author.Needs.{needs}
 use Rattle.tiles.proofs.gather.Statement.{statement}
 use Rattle.tiles.proofs.gather.Tie as tie
 
 abbrev Inv-loop : tie.InvT-loop
-Inv-loop store₀ source rows cols rotations reflections total room heads₀ nexts₀ n₀ v₀ store heads nexts n v = (v ≤ total) × Kept (variant source rows cols rotations reflections) store₀ v n store heads nexts
+Inv-loop store₀ source rows cols rotations reflections total room heads₀ nexts₀ n₀ left₀ store heads nexts n left = (left ≤ total) × Kept (variant source rows cols rotations reflections) store₀ (total - left) n store heads nexts
 
 abbrev μ-loop : tie.MeasureT-loop
-μ-loop store₀ source rows cols rotations reflections total room heads₀ nexts₀ n₀ v₀ store heads nexts n v = total - v
+μ-loop store₀ source rows cols rotations reflections total room heads₀ nexts₀ n₀ left₀ store heads nexts n left = left
 
 variants-of-requires : tie.Need-variants-of-requires Inv-loop μ-loop
 variants-of-requires c κs = search needs
 
 loop-holds : tie.Need-loop-holds Inv-loop μ-loop
-loop-holds c = (search needs, kept-none _ _)
+loop-holds c = (search needs, kept-from _ _ _ (omega arith))
+
+sub-variant-of : tie.Need-sub-variant-of Inv-loop μ-loop
+sub-variant-of c = search needs
 
 variant-of-requires : tie.Need-variant-of-requires Inv-loop μ-loop
 variant-of-requires c κs = search needs
@@ -33,23 +36,23 @@ same-length c = c .before .before .before .add-tile .kept .0 ∙ c .before .befo
 
 returns : tie.Need-returns Inv-loop μ-loop
 unfolding extracted
-returns c = full-end _ _ _ _ _ _ _ (c .before .before .before .before .before .before .before .before .before .before .loop .inv .1) _ _ (c .before .before .before .before .before .before .before .before .before .before .before .variants-of .ensures .0) _ _ _ _ _ (c .before .before .before .before .before .before .before .before .variant-of .ensures) (variant-nine _ _ _ _ _ _ _ (c .before .before .before .before .before .before .before .before .variant-of .ensures)) (c .before .before .before .add-tile .ensures) (c .before .before .before .before .before .before .before .before .before .loop-test .taken) (c .if1 .taken)
+returns c = full-end _ _ _ _ _ _ _ (c .before .before .before .before .before .before .before .before .before .before .loop .inv .1) _ _ (c .before .before .before .before .before .before .before .before .before .before .before .variants-of .ensures .0) _ _ _ _ _ (c .before .before .before .before .before .before .before .before .variant-of .ensures) (variant-nine _ _ _ _ _ _ _ (c .before .before .before .before .before .before .before .before .variant-of .ensures)) (c .before .before .before .add-tile .ensures) (omega (arith, c .before .before .before .before .before .before .before .before .before .loop-test .taken, c .before .before .before .before .before .before .before .before .before .before .loop .inv .0)) (c .if1 .taken)
 
-add-v : tie.Need-add-v Inv-loop μ-loop
-add-v c = search needs
+sub-left : tie.Need-sub-left Inv-loop μ-loop
+sub-left c = search needs
 
 loop-less : tie.Need-loop-less Inv-loop μ-loop
 loop-less c = search needs
 
 loop-again : tie.Need-loop-again Inv-loop μ-loop
-loop-again c = (omega arith, kept-on _ _ _ _ _ _ _ (c .before .before .before .before .before .before .before .before .before .before .loop .inv .1) _ _ _ _ _ (c .before .before .before .before .before .before .before .before .variant-of .ensures) (variant-nine _ _ _ _ _ _ _ (c .before .before .before .before .before .before .before .before .variant-of .ensures)) (c .before .before .before .add-tile .ensures) (c .if1 .left) (c .before .before .before .add-tile .kept .0 ∙ c .before .before .before .before .before .before .before .before .before .before .loop .inv .1 .same))
+loop-again c = (omega arith, kept-then _ _ _ _ _ _ _ (c .before .before .before .before .before .before .before .before .before .before .loop .inv .1) _ _ _ _ _ (c .before .before .before .before .before .before .before .before .variant-of .ensures) (variant-nine _ _ _ _ _ _ _ (c .before .before .before .before .before .before .before .before .variant-of .ensures)) (c .before .before .before .add-tile .ensures) (c .if1 .left) (c .before .before .before .add-tile .kept .0 ∙ c .before .before .before .before .before .before .before .before .before .before .loop .inv .1 .same) _ (omega (arith, c .before .before .before .before .before .before .before .before .before .before .loop .inv .0)))
 
 same-length-2 : tie.Need-same-length-2 Inv-loop μ-loop
 same-length-2 c = search needs
 
 returns-2 : tie.Need-returns-2 Inv-loop μ-loop
 unfolding extracted
-returns-2 c = done-end _ _ _ _ _ _ _ (c .before .loop .inv .1) _ _ (c .before .before .variants-of .ensures .0) (c .before .loop .inv .0) (c .loop-test .left)
+returns-2 c = done-end _ _ _ _ _ _ _ (c .before .loop .inv .1) _ _ (c .before .before .variants-of .ensures .0) (omega arith) (omega (arith, c .loop-test .left))
 
 pub gather-spec : {M : Type 1} → statement M
 gather-spec =
@@ -59,11 +62,12 @@ gather-spec =
     μ-loop
     variants-of-requires
     loop-holds
+    sub-variant-of
     variant-of-requires
     add-tile-requires
     same-length
     returns
-    add-v
+    sub-left
     loop-less
     loop-again
     same-length-2

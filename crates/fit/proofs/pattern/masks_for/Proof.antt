@@ -9,10 +9,10 @@ use Rattle.fit.proofs.pattern.masks_for.Statement.{statement}
 use Rattle.fit.proofs.pattern.masks_for.Tie as tie
 
 abbrev Inv-loop : tie.InvT-loop
-Inv-loop window masks₀ i₀ masks i = (i ≤ 9) × (masks ≡ swept 0 i (λ j. maskOf (getD window j 0)) masks₀)
+Inv-loop window masks₀ k₀ masks k = (k ≤ 9) × (masks ≡ swept 0 k (λ j. maskOf (getD window j 0)) masks₀)
 
 abbrev μ-loop : tie.MeasureT-loop
-μ-loop window masks₀ i₀ masks i = 9 - i
+μ-loop window masks₀ k₀ masks k = 9 - k
 
 loop-holds : tie.Need-loop-holds Inv-loop μ-loop
 loop-holds c = (search needs, swept-none 0 _ _)
@@ -26,8 +26,8 @@ mask-for-requires c κs = search needs
 array-write-masks : tie.Need-array-write-masks Inv-loop μ-loop
 array-write-masks c = search needs
 
-add-i : tie.Need-add-i Inv-loop μ-loop
-add-i c = search needs
+add-k : tie.Need-add-k Inv-loop μ-loop
+add-k c = search needs
 
 loop-less : tie.Need-loop-less Inv-loop μ-loop
 loop-less c = search needs
@@ -35,10 +35,10 @@ loop-less c = search needs
 loop-again : tie.Need-loop-again Inv-loop μ-loop
 loop-again c = let a = c .before .before .before .before .args in
     let l = c .before .before .before .loop in
-    (search needs, swept-turn 0 (l .masks) _ (l .i) (λ i. maskOf (getD (a .window .now) i 0)) (c .mask-for .result) (search needs) (l .inv .1) (c .mask-for .ensures))
+    (search needs, swept-turn 0 (l .masks) _ (l .k) (λ i. maskOf (getD (a .window .now) i 0)) (c .mask-for .result) (search needs) (l .inv .1) (c .mask-for .ensures))
 
 returns : tie.Need-returns Inv-loop μ-loop
-returns c = c .before .loop .inv .1 ∙ swept-all 0 (c .before .loop .i) _ _ (c .loop-test .left)
+returns c = c .before .loop .inv .1 ∙ swept-all 0 (c .before .loop .k) _ _ (c .loop-test .left)
 
 pub masks-for-spec : {M : Type 1} → statement M
 masks-for-spec =
@@ -50,7 +50,7 @@ masks-for-spec =
     element-copy-out-mask-for
     mask-for-requires
     array-write-masks
-    add-i
+    add-k
     loop-less
     loop-again
     returns)
