@@ -2,3 +2,4 @@ pub mod Place
 pub mod Whole
 pub mod Accept
 pub mod Coincide
+pub mod Numbers
