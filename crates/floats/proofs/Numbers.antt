@@ -7,18 +7,17 @@
 -- Assumes nothing.
 use Prim.Native.Nat.{ℕ, zero, suc, _+_, _-_, _*_, _/_, _^_, _<_, _≤_}
 use mathlib.Core.Path.{_≡_, refl, sym, subst}
-use mathlib.Core.Bool.{Bool, true, false, not, _&&_, _||_, cond, Bool·beq}
+use mathlib.Core.Bool.{Bool, true, false, not, _||_, cond, Bool·beq}
 use mathlib.Core.List.{List}
 use native.Mathlib.Nat.{zero-mul}
 use lib.Dec.{T, ltb, eqb, eqb·suc-zero}
 use lib.IntN.{ℤ}
 use lib.ListN.{length, getD}
-use lib.Ieee.{Float, nan, inf, fin, Format, binary64, prec, low, emax, up, down, unlike, level, size, odd, units, round, add, mul, div, isNan, ne, eq, le, lt, ofBits, ofInt}
+use lib.Ieee.{Float, nan, inf, fin, binary64, prec, low, emax, up, down, unlike, level, size, odd, units, round, add, mul, div, isNan, ne, eq, le, lt, ofBits, ofInt}
 use lib.Ieee.Nearest.{closest}
 use lib.Ieee.Scale.{finite}
 use lib.Ieee.Positive.{positive, positive-of-value}
 use lib.Ieee.Back.{round-whole}
-use Rattle.base.specs.Counting.{every}
 use Rattle.base.specs.Tables.{tab}
 use Rattle.base.proofs.Tabled.{length-tab, getD-tab}
 use Rattle.base.proofs.Counted.{every-at, every-is}
@@ -77,7 +76,7 @@ round-number : (s : Bool) (a b : ℕ) → noNan (round binary64 s a b) ≡ true
 unfolding round
 round-number s a b = let k = size (a * 2 ^ low binary64 / b) - prec binary64 in units-number s (closest (a * 2 ^ low binary64) (b * 2 ^ k)) k
 
-round-upward : (a b : ℕ) → T (upward (round binary64 false a b))
+pub round-upward : (a b : ℕ) → T (upward (round binary64 false a b))
 unfolding round
 round-upward a b = let k = size (a * 2 ^ low binary64 / b) - prec binary64 in units-upward (closest (a * 2 ^ low binary64) (b * 2 ^ k)) k
 

@@ -1,18 +1,16 @@
 -- No accepted score call makes a NaN: a fraction is a count by a number of tiles above zero, a sum of fractions or of their squares
 -- has no sign, and it is divided by the number of the cells, which is above zero.
 -- Assumes nothing.
-use Prim.Native.Nat.{ℕ, _+_, _-_, _*_, _/_, _%_, _^_, _<_, _≤_}
+use Prim.Native.Nat.{ℕ, _-_, _*_, _/_, _%_, _<_, _≤_}
 use mathlib.Core.Path.{_≡_, sym, _∙_, ap, subst}
-use mathlib.Core.Bool.{Bool, true, false}
+use mathlib.Core.Bool.{Bool, true}
 use mathlib.Core.List.{List, [], _∷_}
 use native.Mathlib.Nat.{mul-pos}
 use native.Mathlib.Omega.{arith}
 use lib.Dec.{T}
 use lib.ListN.{length, getD}
 use lib.Ieee.{Float, nan}
-use Rattle.base.specs.Counting.{pick}
-use Rattle.base.specs.Tables.{tab, fold}
-use Rattle.base.specs.Refusal.{refusal}
+use Rattle.base.specs.Tables.{fold}
 use Rattle.base.proofs.Bools.{by-test}
 use Rattle.base.proofs.Numbers.{row-lt, col-lt, mul-le}
 use Rattle.checks.proofs.Sides.{board-cols, tiles-least, tiles-most}
@@ -27,9 +25,8 @@ use Rattle.floats.specs.Calls.{Writes}
 use Rattle.floats.specs.Numbers.{noNan}
 use Rattle.floats.proofs.Numbers.{upward, upward-number, finite-number, plus-upward, square-upward, over-upward, count-upward, count-positive, is-finite, all-at, all-tab, zero-upward}
 use Rattle.floats.proofs.Written.{answered-done}
-use Rattle.scores.specs.Box.{boxRows}
 use Rattle.scores.proofs.Box.{box-is, box-length}
-use Rattle.scores.proofs.Accept.{Planes, lays, lifts}
+use Rattle.scores.proofs.Accept.{lays, lifts}
 
 pub fraction-upward : (counts : List ℕ) (tiles k : ℕ) → tileNumber tiles ≡ true → T (upward (fraction counts tiles k))
 unfolding fraction
