@@ -1,7 +1,9 @@
--- The two ways out of a call that writes: refused, with nothing written, and done.
+-- The two ways out of a call that writes: refused, with nothing written, and done. And what the answer `Done` says of the plane.
 -- Assumes nothing.
 use Prim.Native.Nat.{ℕ, zero, suc}
-use mathlib.Core.Path.{_≡_, refl, sym, _∙_, ap}
+use mathlib.Core.Path.{_≡_, refl, sym, _∙_, ap, subst}
+use mathlib.Core.Bool.{Bool, true, false}
+use lib.Dec.{T}
 use Rattle.base.specs.Refusal.{Checks, refusal}
 use Rattle.base.proofs.Chain.{kept-old, has-new}
 use Rattle.rules.specs.Answers.{writtenAnswer}
@@ -19,3 +21,15 @@ module _ {B : Type 0} {left : B} (checks : Checks) (new old : B) where
 
   pub done : {r : ℕ} → r ≡ refusal checks → r ≡ 0 → left ≡ new → Writes checks new old Done left
   done e z k = let n = sym e ∙ z in record { answered = sym (ap writtenAnswer n); leaves = k ∙ sym (has-new (refusal checks) new old n) }
+
+abbrev isDone : Written → Bool
+isDone Done = true
+isDone (Refused n) = false
+
+done-answer : (r : ℕ) → Done ≡ writtenAnswer r → r ≡ 0
+done-answer zero e = refl
+done-answer (suc r) e = absurd (subst T (ap isDone e) tt)
+
+-- a call that answered `Done` passed its checks and left the new plane
+pub answered-done : {B : Type 0} {left : B} (checks : Checks) (new old : B) → Writes checks new old Done left → (refusal checks ≡ 0) × (left ≡ new)
+answered-done checks new old w = let z = done-answer (refusal checks) (w .answered) in (z, w .leaves ∙ has-new (refusal checks) new old z)

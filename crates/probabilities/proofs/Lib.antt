@@ -2,3 +2,5 @@ pub mod Place
 pub mod Whole
 pub mod Accept
 pub mod Coincide
+pub mod Numbers
+pub mod Total

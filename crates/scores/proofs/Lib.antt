@@ -2,3 +2,4 @@ pub mod Box
 pub mod Region
 pub mod Accept
 pub mod Coincide
+pub mod Numbers
