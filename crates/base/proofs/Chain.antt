@@ -1,10 +1,9 @@
 -- Laws of refusals: what each exit of a chain of checks answers, what acceptance gives, a chain made of two, and that where the
 -- numbers ascend the first that fails is the lowest that fails.
 -- Assumes nothing.
-use Prim.Native.Nat.{ℕ, zero, suc, _+_, _<_, _≤_}
-use mathlib.Core.Path.{_≡_, refl, sym, _∙_, ap, subst}
+use Prim.Native.Nat.{ℕ, zero, suc, _<_, _≤_}
+use mathlib.Core.Path.{_≡_, refl, sym, _∙_, subst}
 use mathlib.Core.Bool.{Bool, true, false, not}
-use mathlib.Core.Logic.{_⊎_, inl, inr, ⊎-elim}
 use native.Mathlib.Nat.{le-refl, le-trans}
 use native.Mathlib.Omega.{arith}
 use Rattle.base.specs.Refusal.{Checks, accepted, _unless_or_, refusal, unlessRefused, Gives}

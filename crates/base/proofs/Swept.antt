@@ -4,9 +4,8 @@
 --     swept-skip    cells that f leaves as they are are passed over, however many
 --     swept-all     past the end it is the table of f
 -- Assumes nothing.
-use Prim.Native.Nat.{ℕ, zero, suc, _+_, _<_, _≤_}
-use mathlib.Core.Path.{_≡_, refl, sym, _∙_, ap, subst}
-use mathlib.Core.Bool.{Bool, true, false}
+use Prim.Native.Nat.{ℕ, _+_, _<_, _≤_}
+use mathlib.Core.Path.{_≡_, sym, _∙_, ap}
 use mathlib.Core.List.{List}
 use mathlib.Core.Logic.{⊎-elim}
 use native.Mathlib.Nat.{ne-of-lt, ne-of-gt}
@@ -19,7 +18,7 @@ use Rattle.base.specs.Counting.{pick}
 use Rattle.base.specs.Tables.{tab}
 use Rattle.base.proofs.Bools.{pick-yes, pick-no}
 use Rattle.base.proofs.Numbers.{lt-or-le}
-use Rattle.base.proofs.Tabled.{length-tab, getD-tab, tab-ext, is-tab}
+use Rattle.base.proofs.Tabled.{length-tab, getD-tab, is-tab}
 
 unfoldable pub swept : {A : Type 0} → A → ℕ → (ℕ → A) → List A → List A
 swept d k f l = tab (length l) (λ j. pick (ltb j k) (f j) (getD l j d))

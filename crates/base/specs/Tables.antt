@@ -1,6 +1,6 @@
 -- Lists given by a rule for each place, and folds along a list.
 use Prim.Native.Nat.{ℕ, zero, suc}
-use mathlib.Core.Bool.{Bool, true, false}
+use mathlib.Core.Bool.{Bool}
 use mathlib.Core.List.{List, [], _∷_, _++_}
 use Rattle.base.specs.Counting.{pick}
 

@@ -1,21 +1,21 @@
 -- The checks of lay and lift in the parts in which the code makes them: what each part's answer says of the whole, and what the rule
 -- leans on once all have passed. `last` is what comes after the place: TYPE and TAKEN of a lay, BARE of a lift.
 -- Assumes nothing.
-use Prim.Native.Nat.{ℕ, zero, suc, _+_, _*_, _<_, _≤_}
-use mathlib.Core.Path.{_≡_, refl, sym, _∙_, ap, subst}
-use mathlib.Core.Bool.{Bool, true, false, not}
+use Prim.Native.Nat.{ℕ, suc, _*_, _<_, _≤_}
+use mathlib.Core.Path.{_≡_, refl, sym, _∙_}
+use mathlib.Core.Bool.{true, false, not}
 use mathlib.Core.List.{List}
 use native.Mathlib.Omega.{arith}
-use lib.Dec.{ltb, leb}
+use lib.Dec.{leb}
 use lib.ListN.{length, getD}
-use borrow.Author.Tests.{lt-ltb, le-ltb, lt-leb, le-leb}
+use borrow.Author.Tests.{lt-ltb, le-ltb, lt-leb}
 use Rattle.base.specs.Counting.{within}
 use Rattle.base.specs.Tables.{tab}
 use Rattle.base.specs.Refusal.{Checks, accepted, _unless_or_, refusal}
 use Rattle.base.proofs.Numbers.{cell-lt, mul-le, within-is, within-high}
 use Rattle.base.proofs.Bools.{and-no-left, and-no-right}
 use Rattle.base.proofs.Chain.{passed, pass-by, refuse-by, no-check, _then_, stopped, went-on, numbered}
-use Rattle.rules.specs.Bounds.{maxWeight, SHAPE, LENGTH, COUNT, CELL, PLACE, TYPE, TAKEN, BARE}
+use Rattle.rules.specs.Bounds.{maxWeight, LENGTH, PLACE, TYPE, TAKEN, BARE}
 use Rattle.rules.specs.Tests.{boardSides, hasLength, wholeTiles, tilesIn, tileNumber, colourCount, noneAbove, piecesStored, onBoard}
 use Rattle.rules.specs.Places.{cellOf}
 use Rattle.rules.specs.Grid.{laidOn}
@@ -26,9 +26,8 @@ use Rattle.rules.specs.declared.Offset.{Offset}
 use Rattle.rules.specs.declared.Cell.{Cell}
 use Rattle.rules.specs.declared.Span.{Span}
 use Rattle.checks.proofs.Sides.{none-above, count-most, long}
-use Rattle.fit.specs.Ready.{Countable}
 use Rattle.fit.proofs.Accepted.{accepted-ready}
-use Rattle.steps.specs.Near.{OnPlane, Nearby, lightFrom}
+use Rattle.steps.specs.Near.{OnPlane, Nearby}
 use Rattle.steps.proofs.Leaning.{on-plane}
 use Rattle.board.specs.Calls.{board, job, number, Standing, lengthsChecks, contentsChecks, layingChecks, liftingChecks}
 

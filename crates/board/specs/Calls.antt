@@ -1,13 +1,11 @@
 -- A board and a job from what a call is lent, what the functions beneath the calls lean on, and the parts of the calls' checks in order.
 -- The calls themselves are stated by the definitions of document 01.
-use Prim.Native.Nat.{ℕ, _+_, _*_, _≤_}
-use mathlib.Core.Path.{_≡_}
-use mathlib.Core.Bool.{Bool, not}
+use Prim.Native.Nat.{ℕ, _+_, _*_}
+use mathlib.Core.Bool.{not}
 use mathlib.Core.List.{List}
-use lib.ListN.{length}
 use Rattle.base.specs.Counting.{within}
 use Rattle.base.specs.Refusal.{Checks, accepted, _unless_or_}
-use Rattle.rules.specs.Bounds.{maxColours, maxWeight, SHAPE, LENGTH, COUNT, CELL, TYPE, TAKEN, BARE}
+use Rattle.rules.specs.Bounds.{maxWeight, SHAPE, LENGTH, COUNT, CELL, TYPE, TAKEN, BARE}
 use Rattle.rules.specs.Tests.{boardSides, hasLength, colourCount, noneAbove, piecesStored}
 use Rattle.rules.specs.Grid.{laidOn}
 use Rattle.rules.specs.Board.{Job, Board}

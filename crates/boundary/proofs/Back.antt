@@ -1,6 +1,6 @@
 -- The laws of the boundary: an entry past the end is not stored, an answer's number is passed on, and what holds of an answer holds of
 -- the definition that it equals. Assumes nothing.
-use Prim.Native.Nat.{ℕ, zero, suc, _<_, _≤_}
+use Prim.Native.Nat.{ℕ, zero, suc, _≤_}
 use mathlib.Core.Path.{_≡_, refl, sym, _∙_, ap, ap₂, subst}
 use mathlib.Core.List.{List, [], _∷_}
 use lib.ListN.{length, set}

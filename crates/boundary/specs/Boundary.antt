@@ -18,8 +18,6 @@ use Rattle.rules.specs.declared.TileNumber.{TileNumber}
 use Rattle.rules.specs.declared.TileNumber.the-variants as TileNumber·
 use Rattle.rules.specs.declared.Written.{Written}
 use Rattle.rules.specs.declared.Written.the-variants as Written·
-use Rattle.rules.specs.declared.BoundingBox.{BoundingBox}
-use Rattle.rules.specs.declared.Span.{Span}
 use Rattle.rules.specs.declared.SpanAnswer.{SpanAnswer}
 use Rattle.rules.specs.declared.SpanAnswer.the-variants as SpanAnswer·
 use Rattle.rules.specs.declared.SetAnswer.{SetAnswer}

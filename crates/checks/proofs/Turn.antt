@@ -1,7 +1,7 @@
 -- One turn of a loop that tests every cell of a plane and leaves none out: the answer so far, and the test here.
 -- Assumes nothing.
 use Prim.Native.Nat.{ℕ, _+_}
-use mathlib.Core.Path.{_≡_, refl, sym, _∙_, ap}
+use mathlib.Core.Path.{_≡_, sym, _∙_}
 use mathlib.Core.Bool.{Bool, _&&_}
 use Rattle.base.specs.Counting.{every}
 use Rattle.base.proofs.Counted.{every-more}

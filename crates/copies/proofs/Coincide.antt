@@ -4,7 +4,7 @@ use Prim.Native.Nat.{ℕ}
 use mathlib.Core.Path.{_≡_}
 use mathlib.Core.List.{List}
 use lib.Ieee.{Float, nan}
-use Rattle.base.specs.Refusal.{Checks, accepted, _unless_or_, Gives}
+use Rattle.base.specs.Refusal.{accepted, _unless_or_, Gives}
 use Rattle.base.proofs.Chain.{gives-coincide}
 use Rattle.rules.specs.Bounds.{NUMBER}
 use Rattle.rules.specs.Floats.{one64, isNumber, allAre}

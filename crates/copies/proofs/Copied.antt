@@ -1,20 +1,20 @@
 -- Laws of the copy, over any kind of entry: a row laid entry by entry, the rows laid one by one, and that rows laid in a plane which
 -- holds the fill alone make the copy.
 -- Assumes nothing.
-use Prim.Native.Nat.{ℕ, zero, suc, _+_, _-_, _*_, _/_, _%_, _<_, _≤_}
+use Prim.Native.Nat.{ℕ, suc, _+_, _-_, _*_, _/_, _%_, _<_, _≤_}
 use mathlib.Core.Path.{_≡_, refl, sym, _∙_, ap}
-use mathlib.Core.Bool.{Bool, true, false, _&&_}
+use mathlib.Core.Bool.{_&&_}
 use mathlib.Core.List.{List}
 use mathlib.Core.Logic.{_⊎_, inl, inr, ⊎-elim}
 use native.Mathlib.Nat.{mul-le-mul-right, suc-mul}
 use native.Mathlib.Omega.{arith}
 use lib.Dec.{leb, ltb}
 use lib.ListN.{length, getD, set}
-use borrow.Author.Tests.{leb-true, le-leb, lt-leb, ltb-true, ltb-false, lt-ltb, le-ltb}
+use borrow.Author.Tests.{le-leb, lt-leb, lt-ltb, le-ltb}
 use Rattle.base.specs.Counting.{pick}
 use Rattle.base.specs.Tables.{tab}
-use Rattle.base.proofs.Bools.{and-left, and-right, and-both, and-no-left, and-no-right, pick-yes, pick-no, by-test, same-test}
-use Rattle.base.proofs.Numbers.{cell-is, col-lt, row-of, col-of, lt-or-le}
+use Rattle.base.proofs.Bools.{and-both, and-no-left, and-no-right, pick-yes, pick-no, by-test}
+use Rattle.base.proofs.Numbers.{cell-is, col-lt, lt-or-le}
 use Rattle.base.proofs.Tabled.{length-tab, getD-tab, tab-ext, is-tab}
 use Rattle.base.proofs.Swept.{swept, swept-none, swept-turn, swept-skip, swept-all}
 use Rattle.rules.specs.Places.{newRows, newCols, copiedCell, copied}

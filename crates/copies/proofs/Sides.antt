@@ -1,17 +1,16 @@
 -- Laws of the sides that pads make, and of where a row is laid.
 -- Assumes nothing.
 use Prim.Native.Nat.{ℕ, _+_, _*_, _<_, _≤_}
-use mathlib.Core.Path.{_≡_, refl, sym, _∙_}
-use mathlib.Core.Bool.{Bool, true, false}
+use mathlib.Core.Path.{_≡_, refl, sym}
+use mathlib.Core.Bool.{false}
 use native.Mathlib.Omega.{arith}
 use lib.Dec.{leb}
 use borrow.Author.Tests.{lt-leb, le-leb, eqb-true}
 use Rattle.base.specs.Counting.{within}
-use Rattle.base.specs.Refusal.{accepted, _unless_or_, refusal}
+use Rattle.base.specs.Refusal.{refusal}
 use Rattle.base.proofs.Bools.{and-no-right, and-go, and-stop}
 use Rattle.base.proofs.Chain.{passed}
 use Rattle.checks.proofs.Sides.{board-rows, board-cols, few-cells}
-use Rattle.rules.specs.Bounds.{SHAPE, LENGTH}
 use Rattle.rules.specs.Tests.{boardSides}
 use Rattle.rules.specs.Places.{newRows, newCols}
 use Rattle.rules.specs.declared.Pads.{Pads}

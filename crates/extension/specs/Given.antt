@@ -1,5 +1,5 @@
 -- What the functions beneath the calls lean on: the facts that the checks of the call have shown.
-use Prim.Native.Nat.{ℕ, _+_, _≤_}
+use Prim.Native.Nat.{ℕ, _≤_}
 use mathlib.Core.Path.{_≡_}
 use mathlib.Core.Bool.{true}
 use Rattle.rules.specs.Bounds.{maxRadius}

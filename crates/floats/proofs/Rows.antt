@@ -2,18 +2,18 @@
 -- Cells outside the region stay as they are, so that the loop never visits them.
 -- Assumes nothing.
 use Prim.Native.Nat.{ℕ, _+_, _-_, _*_, _/_, _%_, _<_, _≤_}
-use mathlib.Core.Path.{_≡_, refl, sym, _∙_, ap}
-use mathlib.Core.Bool.{Bool, true, false, _&&_}
+use mathlib.Core.Path.{_≡_, sym, _∙_, ap}
+use mathlib.Core.Bool.{true, false, _&&_}
 use mathlib.Core.List.{List, _++_}
 use native.Mathlib.Nat.{mul-le-mul-right, suc-mul, le-div-iff-mul-le}
 use native.Mathlib.Numerals.{add-one}
 use native.Mathlib.Omega.{arith}
-use lib.Dec.{leb, ltb}
+use lib.Dec.{leb}
 use lib.ListN.{length, getD, take, drop}
 use borrow.Author.Tests.{lt-leb, le-ltb, le-leb, lt-ltb}
 use Rattle.base.specs.Tables.{tab}
 use Rattle.base.proofs.Bools.{and-both, and-no-left, and-no-right}
-use Rattle.base.proofs.Numbers.{row-of, col-of, row-lt, mul-le}
+use Rattle.base.proofs.Numbers.{row-of, col-of, row-lt}
 use Rattle.rules.specs.Scores.{inSpan}
 use Rattle.rules.specs.declared.Span.{Span}
 use Rattle.floats.specs.Spans.{RegionFits}

@@ -1,17 +1,16 @@
 -- The spans round a place that was not refused, as a caller meets them that opens the answer by `let .. else`.
 -- Assumes nothing.
 use Prim.Native.Nat.{ℕ, _≤_}
-use mathlib.Core.Path.{_≡_, refl, sym, _∙_, ap}
+use mathlib.Core.Path.{_≡_, _∙_}
 use native.Mathlib.Omega.{arith}
-use lib.IntN.{_+ℤ_}
 use Rattle.rules.specs.Bounds.{maxRadius}
-use Rattle.rules.specs.Places.{spanOf, cellOf, regionSpans}
+use Rattle.rules.specs.Places.{cellOf, regionSpans}
 use Rattle.rules.specs.declared.World.{World}
 use Rattle.rules.specs.declared.Offset.{Offset}
 use Rattle.rules.specs.declared.Span.{Span}
 use Rattle.rules.specs.declared.SpanAnswer.{SpanAnswer}
 use Rattle.rules.specs.declared.SpanAnswer.the-variants.{Spans, Refused}
-use Rattle.places.proofs.Indices.{Placed, spanRound, spans-given, row-span, col-span}
+use Rattle.places.proofs.Indices.{Placed, spanRound, spans-given}
 
 spans-rows : {a : SpanAnswer} {r s p q : Span} → a ≡ Spans r s → a ≡ Spans p q → r ≡ p
 spans-rows e h = cc

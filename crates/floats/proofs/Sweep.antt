@@ -2,7 +2,7 @@
 --     sweep-none, sweep-turn, sweep-skip, sweep-all     before the first turn; one cell written; cells passed over; past the end
 --     sweep-part      a part, as the cells of one row, was lent to a function that rewrote it
 -- Assumes nothing.
-use Prim.Native.Nat.{ℕ, zero, suc, _+_, _-_, _<_, _≤_}
+use Prim.Native.Nat.{ℕ, _+_, _-_, _<_, _≤_}
 use mathlib.Core.Path.{_≡_, refl, sym, _∙_, ap, subst}
 use mathlib.Core.List.{List, _++_}
 use mathlib.Core.Logic.{⊎-elim}

@@ -11,7 +11,6 @@ use Rattle.base.specs.Refusal.{unlessRefused}
 use Rattle.rules.specs.Bounds.{queueRoom, addedRoom}
 use Rattle.rules.specs.Forced.{noPosition}
 use Rattle.rules.specs.declared.World.{World}
-use Rattle.rules.specs.declared.BoundingBox.{BoundingBox}
 use Rattle.rules.specs.declared.GenerationBounds.{GenerationBounds}
 use Rattle.rules.specs.declared.GenerationBounds.the-variants.{Unbounded, Within}
 use Rattle.rules.specs.declared.ForcedPosition.{ForcedPosition}

@@ -1,21 +1,18 @@
 -- The product step and its reverse, cell by cell: what the block's row says of an entry is what the rules say of it, and what lies
 -- outside the region stays.
 -- Assumes nothing.
-use Prim.Native.Nat.{ℕ, zero, suc, _+_, _-_, _*_, _/_, _%_, _<_, _≤_}
-use mathlib.Core.Path.{_≡_, refl, sym, _∙_, ap}
-use mathlib.Core.Bool.{Bool, true, false, _&&_}
+use Prim.Native.Nat.{ℕ, _+_, _-_, _*_, _/_, _%_, _<_, _≤_}
+use mathlib.Core.Path.{_≡_, sym, _∙_, ap}
+use mathlib.Core.Bool.{Bool, true, false}
 use mathlib.Core.List.{List}
 use native.Mathlib.Nat.{zero-mul}
 use native.Mathlib.Omega.{arith}
-use lib.Dec.{leb, ltb}
+use lib.Dec.{ltb}
 use lib.ListN.{length, getD, take, drop}
-use lib.Ieee.{Float, nan, ne}
-use borrow.Author.Tests.{lt-ltb, le-ltb, le-leb, ltb-true}
-use Rattle.base.specs.Counting.{pick}
-use Rattle.base.proofs.Bools.{and-left, and-right, and-both, and-no-left, and-no-right, pick-yes, pick-no, by-test}
+use lib.Ieee.{Float, nan}
+use borrow.Author.Tests.{le-ltb, ltb-true}
+use Rattle.base.proofs.Bools.{and-left, and-right, and-both, and-no-left, and-no-right, pick-no, by-test}
 use Rattle.base.proofs.Numbers.{cell-lt, row-of, col-of}
-use Rattle.rules.specs.Floats.{zero64, one64, times, over}
-use Rattle.rules.specs.Scores.{inSpan}
 use Rattle.rules.specs.Probabilities.{Region, Block, inRegion, inBlock, influence, productAt, quotientAt}
 use Rattle.rules.specs.declared.Span.{Span}
 use Rattle.floats.proofs.Sweep.{length-part, part-at}

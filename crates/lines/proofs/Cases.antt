@@ -3,7 +3,6 @@
 use Prim.Native.Nat.{ℕ}
 use mathlib.Core.Path.{_≡_, refl}
 use mathlib.Core.List.{List, [], _∷_, map}
-use lib.ListN.{length}
 use Rattle.lines.specs.Lines.{digits, decimal, numberLine, joined, gap, cellText, planeText}
 use Rattle.lines.specs.Pages.{pageWith, placeAfter}
 

@@ -1,9 +1,9 @@
 -- What is written is read back: a number, a number on a line of its own, a run of such lines, a plane. The reading is that of `words`, for
 -- any white space that has no digit in it and any limit that the numbers keep.
 -- Assumes nothing.
-use Prim.Native.Nat.{ℕ, zero, suc, _+_, _-_, _*_, _/_, _%_, _^_, _<_, _≤_, min}
-use mathlib.Core.Path.{_≡_, refl, sym, _∙_, ap, subst}
-use mathlib.Core.Bool.{Bool, true, false, _&&_, _||_}
+use Prim.Native.Nat.{ℕ, zero, suc, _+_, _-_, _*_, _/_, _%_, _^_, _<_, _≤_}
+use mathlib.Core.Path.{_≡_, refl, _∙_, ap}
+use mathlib.Core.Bool.{true, false}
 use mathlib.Core.List.{List, [], _∷_, _++_}
 use native.Mathlib.Nat.{div-lt-iff-lt-mul, pow-suc}
 use native.Mathlib.Omega.{arith}
@@ -12,10 +12,10 @@ use lib.ListN.{length, getD}
 use borrow.Author.Tests.{le-leb, ne-eqb, ltb-true, ltb-false}
 use Rattle.base.specs.Counting.{pick, some, within}
 use Rattle.base.specs.Tables.{tab, fold}
-use Rattle.base.proofs.Bools.{and-both, by-test, pick-yes, pick-no}
+use Rattle.base.proofs.Bools.{and-both, by-test}
 use Rattle.base.proofs.Numbers.{within-is}
 use Rattle.base.proofs.Tabled.{fold-append}
-use Rattle.words.specs.Words.{Reading, between, inside, Text, numbers, isBlank, withDigit, grows, grown, after, ended, reading, numbersIn}
+use Rattle.words.specs.Words.{Reading, between, inside, numbers, isBlank, withDigit, grows, grown, after, ended, reading, numbersIn}
 use Rattle.words.specs.Input.{inputBlanks}
 use Rattle.lines.specs.Lines.{digits, decimal, numberLine, joined, gap, cellText, planeText}
 

@@ -1,13 +1,13 @@
 -- Laws of writing: a byte, nothing, two texts one after the other, a text that does not fit; and what stands in the buffer in the end.
 -- Assumes nothing.
-use Prim.Native.Nat.{ℕ, zero, suc, _+_, _-_, _<_, _≤_, min, max}
+use Prim.Native.Nat.{ℕ, suc, _+_, _<_, _≤_, min, max}
 use mathlib.Core.Path.{_≡_, refl, sym, _∙_, ap, subst}
 use mathlib.Core.List.{List, [], _∷_, _++_}
 use mathlib.Core.Logic.{⊎-elim}
 use native.Mathlib.Nat.{add-suc, suc-add}
 use native.Mathlib.Omega.{arith}
-use lib.ListN.{length, set, take, drop, length-append, length-set}
-use lib.Seq.{sets, length-sets, sets-eq, set-out, take-at, drop-at}
+use lib.ListN.{length, set, drop, length-append}
+use lib.Seq.{sets, length-sets, sets-eq, set-out}
 use Rattle.base.proofs.Numbers.{lt-or-le}
 use Rattle.lines.specs.Pages.{pageWith, placeAfter, Writes}
 

@@ -1,12 +1,12 @@
 -- Laws of the planes and the scan as they are printed, and that a dead end lies on the board.
 -- Assumes nothing.
-use Prim.Native.Nat.{ℕ, zero, suc, _+_, _*_, _/_, _%_, _≤_}
-use mathlib.Core.Path.{_≡_, refl, sym, _∙_, ap, subst}
+use Prim.Native.Nat.{ℕ, zero, suc, _*_, _/_, _%_, _≤_}
+use mathlib.Core.Path.{_≡_, sym, ap, subst}
 use mathlib.Core.Bool.{Bool, true, false}
 use mathlib.Core.List.{List, _++_}
 use lib.Dec.{ltb}
 use native.Mathlib.Omega.{arith}
-use Rattle.base.specs.Counting.{pick, first}
+use Rattle.base.specs.Counting.{first}
 use Rattle.base.specs.Refusal.{refusal}
 use Rattle.base.proofs.Bools.{by-test}
 use Rattle.base.proofs.Numbers.{mul-le, cell-is}

@@ -1,31 +1,30 @@
 -- Laws of the set-up: a sample of sides up to 16 has 1 to 1,568 tiles, so that they fit the store and a fresh board takes them; its cells as
 -- bytes are refused exactly as the numbers are, and are the numbers where nothing is refused.
 -- Assumes nothing.
-use Prim.Native.Nat.{ℕ, zero, suc, _+_, _-_, _*_, _/_, _%_, _<_, _≤_, min}
-use mathlib.Core.Path.{_≡_, refl, sym, _∙_, ap, subst}
-use mathlib.Core.Bool.{Bool, true, false, _&&_}
-use mathlib.Core.List.{List, [], _∷_, _++_}
+use Prim.Native.Nat.{ℕ, zero, suc, _+_, _*_, _%_, _<_, _≤_, min}
+use mathlib.Core.Path.{_≡_, refl, sym, _∙_, ap}
+use mathlib.Core.Bool.{Bool, true, false}
+use mathlib.Core.List.{List, _++_}
 use native.Mathlib.Omega.{arith}
-use lib.Dec.{leb, ltb, eqb}
+use lib.Dec.{leb, eqb}
 use lib.ListN.{length, getD, take, drop, length-take, length-drop}
 use lib.Seq.{take-all, take-at, getD-take, getD-drop, ext-getD}
-use borrow.Author.Tests.{le-leb, lt-leb, leb-true, leb-false, eq-eqb}
-use Rattle.base.specs.Counting.{pick, every, within}
-use Rattle.base.specs.Tables.{tab}
+use borrow.Author.Tests.{le-leb, leb-true, eq-eqb}
+use Rattle.base.specs.Counting.{every, within}
 use Rattle.base.specs.Refusal.{Checks, accepted, _unless_or_, refusal, unlessRefused, Gives}
-use Rattle.base.proofs.Bools.{and-both, by-test, same-test}
-use Rattle.base.proofs.Numbers.{mul-le, within-low, within-high, within-is}
+use Rattle.base.proofs.Bools.{and-both, same-test}
+use Rattle.base.proofs.Numbers.{mul-le, within-is}
 use Rattle.base.proofs.Counted.{every-ext}
 use Rattle.base.proofs.Tabled.{length-tab, getD-tab}
-use Rattle.base.proofs.Chain.{passed, pass-by, no-check}
+use Rattle.base.proofs.Chain.{passed, pass-by}
 use Rattle.rules.specs.Bounds.{SHAPE, LENGTH, COUNT, CELL}
 use Rattle.rules.specs.Tests.{sampleSides, hasLength, tilesIn, tileNumber, wholeTiles, colourCount, entryUpTo, noneAbove}
 use Rattle.rules.specs.Answers.{tileAnswer}
-use Rattle.rules.specs.Tiles.{startsAlong, forms, turns, variants, variant, distinct, extracted, storeWith, sampleChecks, roomCheck, extraction, storeAfter}
+use Rattle.rules.specs.Tiles.{startsAlong, forms, variants, variant, distinct, extracted, storeWith, sampleChecks, roomCheck, extraction, storeAfter}
 use Rattle.rules.specs.declared.TileNumber.{TileNumber}
 use Rattle.rules.specs.declared.TileNumber.the-variants as TileNumber·
 use Rattle.checks.proofs.Sides.{count-most, none-above}
-use Rattle.forms.proofs.Variants.{turns-le, turns-pos, forms-le, forms-pos, variant-length}
+use Rattle.forms.proofs.Variants.{turns-le, forms-le, forms-pos, variant-length}
 use Rattle.tiles.proofs.Store.{with-length}
 use Rattle.tiles.proofs.Meaning.{run-has}
 use Rattle.lister.specs.Runs.{clipped}

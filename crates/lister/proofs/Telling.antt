@@ -1,18 +1,18 @@
 -- Laws of the exits: what each way through the program's functions writes is what the definition says, and what the functions beneath ask.
 -- Assumes nothing.
-use Prim.Native.Nat.{ℕ, zero, suc, _+_, _-_, _*_, _/_, _<_, _≤_}
+use Prim.Native.Nat.{ℕ, zero, suc, _+_, _*_, _≤_}
 use mathlib.Core.Path.{_≡_, refl, sym, _∙_, ap, subst}
 use mathlib.Core.Bool.{Bool, true, false, _&&_}
-use mathlib.Core.List.{List, [], _∷_, _++_}
+use mathlib.Core.List.{List, _++_}
 use native.Mathlib.Omega.{arith}
-use lib.Dec.{leb, eqb}
-use lib.ListN.{length, getD, take, drop, length-append, length-drop}
+use lib.Dec.{leb}
+use lib.ListN.{length, getD, take, drop}
 use lib.Seq.{take-at, length-take-le}
 use borrow.Author.Tests.{leb-true, le-leb, eq-eqb}
 use Rattle.io.specs.Counts.{Counts}
 use Rattle.base.specs.Counting.{pick, within}
-use Rattle.base.specs.Refusal.{accepted, refusal, unlessRefused, Gives}
-use Rattle.base.proofs.Bools.{and-left, and-right, and-both, by-test, pick-yes, pick-no}
+use Rattle.base.specs.Refusal.{accepted, refusal, Gives}
+use Rattle.base.proofs.Bools.{and-left, and-right, and-both, pick-yes, pick-no}
 use Rattle.base.proofs.Numbers.{mul-le, within-low, within-high, within-is}
 use Rattle.base.proofs.Chain.{pass-by, no-check, has-new}
 use Rattle.rules.specs.Bounds.{SHAPE, LENGTH}

@@ -1,9 +1,9 @@
 -- Laws of the walk along the steps: what a step at a place is, where the next one starts, and the loop that takes one after the other. Its
 -- invariant is that what is left to do, from the board and the page as they are, comes to the whole.
 -- Assumes nothing.
-use Prim.Native.Nat.{ℕ, zero, suc, _+_, _-_, _<_, _≤_}
+use Prim.Native.Nat.{ℕ, zero, suc, _+_, _<_, _≤_}
 use mathlib.Core.Path.{_≡_, refl, sym, _∙_, ap, subst}
-use mathlib.Core.Bool.{Bool, true, false}
+use mathlib.Core.Bool.{true, false}
 use mathlib.Core.List.{List, [], _∷_, _++_}
 use lib.IntN.{pos}
 use mir.Syntax.{w32}
@@ -12,8 +12,7 @@ use native.Mathlib.Omega.{arith}
 use lib.Dec.{eqb}
 use lib.ListN.{length, getD, drop, drop-of-length-le}
 use lib.Seq.{getD-drop}
-use borrow.Author.Tests.{eqb-true, eqb-false, eq-eqb, ne-eqb}
-use Rattle.base.specs.Counting.{pick}
+use borrow.Author.Tests.{eqb-true, eqb-false, ne-eqb}
 use Rattle.base.specs.Tables.{fold}
 use Rattle.base.proofs.Bools.{by-test, never}
 use Rattle.base.specs.Refusal.{refusal, Gives}
@@ -30,7 +29,7 @@ use Rattle.lines.specs.Lines.{numberLine}
 use Rattle.lines.specs.Pages.{Writes}
 use Rattle.lines.proofs.Written.{writes-none, writes-then, writes-as}
 use Rattle.lister.specs.Steps.{placeOf, layNumber, liftNumber, answerTo, boardAfter, answersText, boardIn}
-use Rattle.lister.specs.Runs.{Small, Walks, stepAt, Stepped, Ran}
+use Rattle.lister.specs.Runs.{Walks, stepAt, Stepped, Ran}
 
 -- ---- the number of an answer
 pub lay-number-of : (n : ℕ) → layNumber (layAnswer n) ≡ n

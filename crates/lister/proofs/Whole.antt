@@ -1,23 +1,20 @@
 -- No output is cut off: what the program prints for any input has at most 65,536 bytes. A step has three numbers at the least and prints a line;
 -- each plane keeps its length through all steps.
 -- Assumes nothing.
-use Prim.Native.Nat.{ℕ, zero, suc, _+_, _-_, _*_, _/_, _%_, _<_, _≤_}
-use mathlib.Core.Path.{_≡_, refl, sym, _∙_, ap, subst}
-use mathlib.Core.Bool.{Bool, true, false, _&&_}
+use Prim.Native.Nat.{ℕ, zero, suc, _+_, _*_, _≤_}
+use mathlib.Core.Path.{_≡_, refl, sym, _∙_, ap}
+use mathlib.Core.Bool.{true}
 use mathlib.Core.List.{List, [], _∷_, _++_}
-use native.Mathlib.Nat.{suc-mul}
 use native.Mathlib.Omega.{arith}
 use lib.Dec.{leb}
-use lib.ListN.{length, getD, set, take, drop, length-append, length-set, length-drop}
+use lib.ListN.{length, take, drop, length-append, length-set, length-drop}
 use lib.Seq.{take-at}
-use Rattle.base.specs.Counting.{pick, within}
-use Rattle.base.specs.Tables.{tab, fold}
-use Rattle.base.specs.Refusal.{refusal, unlessRefused, accepted}
+use Rattle.base.specs.Tables.{fold}
+use Rattle.base.specs.Refusal.{refusal, unlessRefused}
 use Rattle.base.proofs.Bools.{and-left, and-right, by-test}
 use Rattle.base.proofs.Numbers.{mul-le, within-high}
 use Rattle.base.proofs.Tabled.{length-tab}
 use Rattle.rules.specs.Bounds.{bare}
-use Rattle.rules.specs.Tests.{tilesIn}
 use Rattle.rules.specs.Forced.{deadEnd}
 use Rattle.rules.specs.Board.{Job, Board, raised, lowered, recounted, laid, lifted, freshBoard, layChecks, afterLay, liftChecks, afterLift}
 use Rattle.rules.specs.declared.Cell.{Cell}
@@ -29,12 +26,12 @@ use Rattle.words.specs.Form.{Step, lay, lift, Steps, misformed, steps, stepsIn,
 use Rattle.words.specs.declared.Setup.{Setup}
 use Rattle.words.proofs.Meaning.{spelled, steps-are, input-few}
 use Rattle.words.proofs.Forming.{formed-tail, sides-up}
-use Rattle.lines.specs.Lines.{decimal, numberLine, planeText}
+use Rattle.lines.specs.Lines.{numberLine}
 use Rattle.lines.specs.Pages.{Writes}
 use Rattle.lines.proofs.Texts.{decimal-length, line-length, plane-length}
 use Rattle.lines.proofs.Written.{writes-all}
 use Rattle.lister.specs.Steps.{answerTo, boardAfter, answersText, boardIn}
-use Rattle.lister.specs.Printed.{badLine, refusedLine, planesText, deadEndText, scanText, endText, runText, freshFor, unlessNumber, setupRefusal, tilesOf, jobWith, jobText, numbersText, textFor, printed}
+use Rattle.lister.specs.Printed.{refusedLine, planesText, deadEndText, scanText, endText, runText, freshFor, unlessNumber, setupRefusal, tilesOf, jobWith, jobText, numbersText, textFor, printed}
 
 -- ---- planes keep their lengths
 pub record Sized (n : ℕ) (b : Board) : Type 0 where

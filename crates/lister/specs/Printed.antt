@@ -1,6 +1,5 @@
 -- Document 01, "Listing program": what it prints, byte by byte, for every input.
 use Prim.Native.Nat.{ℕ, zero, suc, _*_}
-use mathlib.Core.Bool.{Bool, true, false}
 use mathlib.Core.List.{List, [], _∷_, _++_}
 use Rattle.base.specs.Counting.{pick}
 use Rattle.base.specs.Refusal.{accepted, refusal}

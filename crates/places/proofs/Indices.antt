@@ -2,15 +2,15 @@
 -- a cell's row or column x runs from x - k (0 where k is larger) up to, not including, x + k + 1.
 -- Assumes nothing.
 use Prim.Native.Nat.{ℕ, zero, suc, _+_, _-_, _*_, _<_, _≤_}
-use mathlib.Core.Path.{_≡_, refl, sym, ap, _∙_}
+use mathlib.Core.Path.{_≡_, refl, ap, _∙_}
 use mathlib.Core.Bool.{Bool, true, false, cond}
 use native.Mathlib.Omega.{arith}
 use lib.Dec.{T, leb, ltb, lit<}
-use lib.IntN.{ℤ, pos, negsuc, natAbs, subℕ, _+ℤ_, _-ℤ_}
+use lib.IntN.{ℤ, pos, negsuc, natAbs, subℕ, _+ℤ_}
 use lib.Signed.{ltZ, mag, nonNeg}
 use borrow.Author.Tests.{leb-true, le-leb, le-ltb, ltb-true}
 use Rattle.base.specs.Whole.{clip, withinZ, indexBelow}
-use Rattle.base.specs.Refusal.{Checks, accepted, _unless_or_, refusal}
+use Rattle.base.specs.Refusal.{accepted, _unless_or_, refusal}
 use Rattle.base.proofs.Bools.{and-left, and-right, never}
 use Rattle.base.proofs.Numbers.{cell-lt}
 use Rattle.base.proofs.Chain.{passed}

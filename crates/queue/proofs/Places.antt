@@ -18,7 +18,8 @@ use borrow.Author.Tests.{eq-eqb, eqb-true, ne-eqb}
 use Rattle.base.specs.Whole.{eqZ}
 use Rattle.base.proofs.Bools.{same-test, never}
 use Rattle.rules.specs.Tests.{onWall}
-use Rattle.rules.specs.Forced.{samePlace, isQueued, allOnWall}
+use Rattle.rules.specs.Places.{samePlace}
+use Rattle.rules.specs.Forced.{isQueued, allOnWall}
 use Rattle.rules.specs.declared.World.{World}
 use Rattle.rules.specs.declared.ForcedPosition.{ForcedPosition}
 

@@ -1,21 +1,19 @@
 -- What the recount leans on once its checks have passed, and the chain of its checks in two parts.
 -- Assumes nothing.
-use Prim.Native.Nat.{ℕ, zero, suc, _+_, _*_, _<_, _≤_}
-use mathlib.Core.Path.{_≡_, refl, sym, _∙_, ap}
-use mathlib.Core.Bool.{Bool, true, false}
+use Prim.Native.Nat.{ℕ, _*_}
+use mathlib.Core.Path.{_≡_, refl, sym}
+use mathlib.Core.Bool.{true}
 use mathlib.Core.List.{List}
-use native.Mathlib.Omega.{arith}
-use Rattle.base.specs.Refusal.{Checks, accepted, _unless_or_, refusal}
+use Rattle.base.specs.Refusal.{accepted, refusal}
 use Rattle.base.proofs.Chain.{passed, pass-by, no-check, _then_, stopped, went-on, numbered}
-use Rattle.rules.specs.Bounds.{SHAPE, LENGTH, COUNT, CELL}
-use Rattle.rules.specs.Tests.{boardSides, hasLength, wholeTiles, tilesIn, colourCount, noneAbove, piecesStored}
+use Rattle.rules.specs.Tests.{boardSides, hasLength, wholeTiles, colourCount, noneAbove, piecesStored}
 use Rattle.rules.specs.Fit.{piecesChecks, placeChecks}
 use Rattle.rules.specs.Board.{recountChecks}
 use Rattle.rules.specs.declared.World.{World}
 use Rattle.rules.specs.declared.Offset.{Offset}
 use Rattle.fit.specs.Ready.{Countable}
 use Rattle.fit.proofs.Accepted.{accepted-ready}
-use Rattle.recount.specs.Checks.{contentsChecks, planesChecks}
+use Rattle.recount.specs.Checks.{planesChecks}
 
 module _ (counts pieces : List ℕ) (rows cols : ℕ) (tiles : List ℕ) (count : ℕ) where
   pub record Planed : Type 0 where

@@ -6,7 +6,6 @@ use mathlib.Core.Path.{_≡_, refl, sym, _∙_, ap}
 use Rattle.base.specs.Refusal.{unlessRefused, Gives}
 use Rattle.base.proofs.Chain.{kept-old, has-new}
 use Rattle.rules.specs.Answers.{writtenAnswer}
-use Rattle.rules.specs.declared.Written.{Written}
 use Rattle.rules.specs.declared.Written.the-variants.{Done, Refused}
 
 pub refused-is : (n : ℕ) → (n ≡ 0 → ⊥) → Refused n ≡ writtenAnswer n

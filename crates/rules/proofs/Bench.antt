@@ -1,19 +1,19 @@
 -- Document 01's bench cases marked P: one statement on one table, shown by evaluating the definitions. An answer is written as a list of
 -- numbers: first the refusal's number, 0 where the call is accepted, then its values; a float is written by its bits.
 -- Assumes nothing.
-use Prim.Native.Nat.{ℕ, zero, suc, _+_, _*_, _/_, _%_}
+use Prim.Native.Nat.{ℕ}
 use mathlib.Core.Path.{_≡_, refl}
 use mathlib.Core.Bool.{Bool, true, false, _&&_}
 use lib.Dec.{eqb}
-use mathlib.Core.List.{List, [], _∷_, _++_, map}
-use lib.ListN.{length, getD, take, drop, replicate}
-use lib.IntN.{pos, negsuc, negℤ}
+use mathlib.Core.List.{List, [], _∷_, map}
+use lib.ListN.{getD, replicate}
+use lib.IntN.{pos, negsuc}
 use lib.Ieee.{Float, binary64, ofBits, toBits, ofInt, lt, le, add, mul, div}
-use Rattle.base.specs.Counting.{pick, every, some, sum, tally, first, within}
+use Rattle.base.specs.Counting.{every, some, sum, tally, first, within}
 use Rattle.base.specs.Tables.{tab, those, fold}
 use Rattle.base.specs.Refusal.{refusal}
 use Rattle.base.specs.Whole.{clip, withinZ}
-use Rattle.rules.specs.Tests.{boardSides, sampleSides, hasLength, tilesIn, tileNumber, wholeTiles, colourCount, noneAbove, piecesStored, onWall, offsetFits, onBoard}
+use Rattle.rules.specs.Tests.{boardSides, sampleSides, hasLength, tileNumber, wholeTiles, colourCount, noneAbove, piecesStored, onWall, offsetFits, onBoard}
 use Rattle.rules.specs.Places.{cellOf, spanOf, firstOf, lastOf, padBefore, padAfter, boxedBefore, boxedAfter, padsOf, boxedPads, extensionBy, extensionOf, boxedExtension}
 use Rattle.rules.specs.Sets.{has, bitsOf, coloursOf, membersOf}
 use Rattle.rules.specs.Tiles.{sampleCell, windowTile, rotated, reflected, turned, form, variant, sameTile, hasTile, withTile, distinct, extracted, extraction, storeAfter, storeWith}

@@ -1,8 +1,8 @@
 -- Document 01, "Weights, counts, scores", and the added board: fresh, lay, lift; and what the standing pieces alone say (demand 3).
-use Prim.Native.Nat.{ℕ, zero, suc, _+_, _-_, _*_}
-use mathlib.Core.Bool.{Bool, true, false, not, _&&_}
+use Prim.Native.Nat.{ℕ, _+_, _-_, _*_}
+use mathlib.Core.Bool.{Bool, not, _&&_}
 use mathlib.Core.List.{List}
-use lib.Dec.{leb, ltb, eqb}
+use lib.Dec.{leb}
 use lib.ListN.{length, getD, set}
 use Rattle.base.specs.Counting.{pick, sum, within}
 use Rattle.base.specs.Tables.{tab}

@@ -1,6 +1,6 @@
 -- Document 01, "Fit": how many tiles fit a region, and which colours fit a cell.
-use Prim.Native.Nat.{ℕ, zero, suc, _+_, _*_}
-use mathlib.Core.Bool.{Bool, true, false, not, _&&_, _||_}
+use Prim.Native.Nat.{ℕ, _+_, _*_}
+use mathlib.Core.Bool.{Bool, not, _&&_, _||_}
 use mathlib.Core.List.{List, [], _∷_}
 use lib.Dec.{ltb, eqb}
 use lib.ListN.{getD}
@@ -10,7 +10,7 @@ use Rattle.rules.specs.Bounds.{SHAPE, LENGTH, COUNT, CELL, PLACE}
 use Rattle.rules.specs.Tests.{boardSides, hasLength, wholeTiles, tilesIn, colourCount, noneAbove, piecesStored, onWall, offsetFits, onBoard}
 use Rattle.rules.specs.Answers.{listingAnswer, numberAnswer}
 use Rattle.rules.specs.Sets.{setOf}
-use Rattle.rules.specs.Grid.{Shape, flat, cellNumber, numberOf, colourOn}
+use Rattle.rules.specs.Grid.{Shape, flat, numberOf, colourOn}
 use Rattle.rules.specs.declared.World.{World}
 use Rattle.rules.specs.declared.Offset.{Offset}
 use Rattle.rules.specs.declared.Cell.{Cell}

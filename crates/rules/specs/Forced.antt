@@ -1,18 +1,17 @@
 -- Document 01, "Fit": forced neighbours, the queue, the dead end.
-use Prim.Native.Nat.{ℕ, zero, suc, _+_, _-_, _*_, _/_, _%_}
+use Prim.Native.Nat.{ℕ, _-_, _*_, _/_, _%_}
 use mathlib.Core.Bool.{Bool, true, false, not, _&&_, _||_}
 use mathlib.Core.List.{List, [], _∷_, _++_}
 use lib.Dec.{leb, ltb, eqb}
 use lib.ListN.{length, getD, take, drop, replicate}
-use lib.IntN.{ℤ, pos, _+ℤ_, _-ℤ_}
+use lib.IntN.{pos, _+ℤ_, _-ℤ_}
 use Rattle.base.specs.Counting.{pick, first}
 use Rattle.base.specs.Tables.{those, fold}
-use Rattle.base.specs.Whole.{eqZ}
 use Rattle.base.specs.Refusal.{Checks, accepted, _unless_or_, refusal, unlessRefused}
 use Rattle.rules.specs.Bounds.{maxWeight, queueRoom, addedRoom, SHAPE, LENGTH, COUNT, CELL, PLACE, ROOM}
 use Rattle.rules.specs.Tests.{boardSides, hasLength, wholeTiles, colourCount, noneAbove, piecesStored, onWall, onBoard}
 use Rattle.rules.specs.Answers.{verdictAnswer, numberAnswer, writtenAnswer, deadEndAnswer, nextAnswer}
-use Rattle.rules.specs.Places.{inBox}
+use Rattle.rules.specs.Places.{samePlace, inBox}
 use Rattle.rules.specs.Sets.{coloursOf}
 use Rattle.rules.specs.Grid.{Shape, flat, numberOf, laidOn}
 use Rattle.rules.specs.Fit.{lists, piecesChecks, placeChecks}
@@ -100,9 +99,6 @@ offered p = take (p .len) (p .entries)
 -- an accepted call leaves the entries past the length at 0
 unfoldable pub queueOf : List ForcedPosition → ForcedPipeline
 queueOf l = record { entries = padded queueRoom l; len = length l }
-
-unfoldable pub samePlace : World → World → Bool
-samePlace w v = eqZ (w .0) (v .0) && eqZ (w .1) (v .1)
 
 unfoldable pub isQueued : World → List ForcedPosition → Bool
 isQueued w [] = false

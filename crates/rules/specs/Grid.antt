@@ -7,7 +7,6 @@ use lib.Dec.{leb, ltb}
 use lib.ListN.{getD}
 use Rattle.base.specs.Counting.{pick}
 use Rattle.rules.specs.Places.{cellOf}
-use Rattle.rules.specs.declared.Cell.{Cell}
 use Rattle.rules.specs.declared.World.{World}
 use Rattle.rules.specs.declared.Offset.{Offset}
 

@@ -1,16 +1,16 @@
 -- Document 01, "Places": spans, boxes, extension, the copy of a plane into a larger one.
-use Prim.Native.Nat.{ℕ, zero, suc, _+_, _-_, _*_, _/_, _%_}
-use mathlib.Core.Bool.{Bool, true, false, _&&_}
+use Prim.Native.Nat.{ℕ, _+_, _-_, _*_, _/_, _%_}
+use mathlib.Core.Bool.{Bool, _&&_}
 use mathlib.Core.List.{List}
 use lib.Dec.{leb, ltb}
 use lib.ListN.{getD}
 use lib.IntN.{ℤ, pos, _+ℤ_, _-ℤ_}
 use lib.Signed.{leZ}
-use Rattle.base.specs.Counting.{pick, within}
+use Rattle.base.specs.Counting.{pick}
 use Rattle.base.specs.Tables.{tab}
-use Rattle.base.specs.Whole.{clip}
+use Rattle.base.specs.Whole.{clip, eqZ}
 use Rattle.base.specs.Refusal.{Checks, accepted, _unless_or_, refusal}
-use Rattle.rules.specs.Bounds.{maxBoardSide, maxRadius, SHAPE, LENGTH, PLACE}
+use Rattle.rules.specs.Bounds.{maxRadius, SHAPE, LENGTH, PLACE}
 use Rattle.rules.specs.Tests.{boardSides, hasLength, onWall, offsetFits}
 use Rattle.rules.specs.Answers.{spanAnswer, verdictAnswer, extensionAnswer}
 use Rattle.rules.specs.declared.World.{World}
@@ -27,6 +27,9 @@ use Rattle.rules.specs.declared.ExtensionAnswer.{ExtensionAnswer}
 -- Index = coordinate + offset; a coordinate above or left of the grid has no index, and 0 stands for it
 unfoldable pub cellOf : World → Offset → Cell
 cellOf w o = record { 0 = clip (w .0 +ℤ o .0); 1 = clip (w .1 +ℤ o .1) }
+
+unfoldable pub samePlace : World → World → Bool
+samePlace w v = eqZ (w .0) (v .0) && eqZ (w .1) (v .1)
 
 -- A span of radius k round index x runs from max(0, x-k) up to, not including, max(0, x+k+1)
 unfoldable pub spanOf : ℤ → ℕ → Span

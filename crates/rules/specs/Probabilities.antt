@@ -1,6 +1,6 @@
 -- Document 01, "Probabilities". All probabilities stand in one plane, colour by colour, each row by row; an influence block likewise.
 use Prim.Native.Nat.{ℕ, _+_, _-_, _*_, _/_, _%_, min}
-use mathlib.Core.Bool.{Bool, true, false, _&&_}
+use mathlib.Core.Bool.{Bool, _&&_}
 use mathlib.Core.List.{List, map}
 use lib.Dec.{leb, ltb}
 use lib.ListN.{length, getD}

@@ -8,10 +8,10 @@ use lib.IntN.{_+ℤ_}
 use lib.Ieee.{Float, nan}
 use Rattle.base.specs.Counting.{pick}
 use Rattle.base.specs.Tables.{tab, those, fold}
-use Rattle.base.specs.Refusal.{Checks, accepted, _unless_or_, refusal, unlessRefused}
+use Rattle.base.specs.Refusal.{Checks, accepted, _unless_or_, refusal}
 use Rattle.rules.specs.Bounds.{SHAPE, LENGTH, CELL, NUMBER, PLACE}
 use Rattle.rules.specs.Tests.{boardSides, hasLength, tileNumber, noneAbove}
-use Rattle.rules.specs.Answers.{fractionAnswer, writtenAnswer}
+use Rattle.rules.specs.Answers.{fractionAnswer}
 use Rattle.rules.specs.Places.{spanOf}
 use Rattle.rules.specs.Fit.{placeChecks}
 use Rattle.rules.specs.Floats.{zero64, plus, times, over, floatOf, isFinite, allAre}

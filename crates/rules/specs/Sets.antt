@@ -1,10 +1,10 @@
 -- Document 01, "a set is 32 bits with its size": sets of colours, over any number of bits.
 use Prim.Native.Nat.{ℕ, zero, suc, _+_, _-_, _^_, _/_, _%_}
 use mathlib.Core.Bool.{Bool, true, false, _&&_, _||_}
-use mathlib.Core.List.{List, [], _∷_, _++_}
-use lib.Dec.{leb, ltb, eqb}
+use mathlib.Core.List.{List, [], _++_}
+use lib.Dec.{ltb, eqb}
 use lib.ListN.{length, replicate}
-use Rattle.base.specs.Counting.{pick, within}
+use Rattle.base.specs.Counting.{pick}
 use Rattle.base.specs.Tables.{those}
 use Rattle.base.specs.Refusal.{Checks, accepted, _unless_or_, refusal}
 use Rattle.rules.specs.Bounds.{maxColours, COUNT, CELL}

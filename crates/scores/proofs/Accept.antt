@@ -1,14 +1,14 @@
 -- What an accepted score call has passed, and the lay's chain of checks as its two parts.
 -- Assumes nothing.
 use Prim.Native.Nat.{ℕ, _*_, _≤_}
-use mathlib.Core.Path.{_≡_, refl, sym, _∙_, ap}
-use mathlib.Core.Bool.{Bool, true, false}
+use mathlib.Core.Path.{_≡_, refl}
+use mathlib.Core.Bool.{true}
 use mathlib.Core.List.{List}
 use lib.ListN.{length}
 use lib.Ieee.{Float}
 use borrow.Author.Tests.{leb-true}
-use Rattle.base.specs.Refusal.{Checks, accepted, _unless_or_, refusal}
-use Rattle.base.proofs.Chain.{passed, _then_, numbered, stopped, went-on, then-go}
+use Rattle.base.specs.Refusal.{Checks, accepted, refusal}
+use Rattle.base.proofs.Chain.{passed, _then_, numbered, stopped, went-on}
 use Rattle.checks.proofs.Sides.{long}
 use Rattle.rules.specs.Tests.{boardSides, tileNumber, noneAbove}
 use Rattle.rules.specs.Floats.{isFinite, allAre}

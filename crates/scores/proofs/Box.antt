@@ -1,20 +1,20 @@
 -- The box of a cell: the loops that visit it, that it has the cells which the rules give it, and how many they are.
 -- Assumes nothing.
-use Prim.Native.Nat.{ℕ, zero, suc, _+_, _-_, _*_, _/_, _%_, _<_, _≤_}
-use mathlib.Core.Path.{_≡_, refl, sym, _∙_, ap}
+use Prim.Native.Nat.{ℕ, zero, suc, _+_, _-_, _*_, _<_, _≤_}
+use mathlib.Core.Path.{_≡_, refl, sym, _∙_}
 use mathlib.Core.Bool.{Bool, true, false, _&&_}
-use mathlib.Core.List.{List, [], _∷_, _++_, append-nil, append-assoc}
+use mathlib.Core.List.{[], _∷_, _++_, append-nil, append-assoc}
 use native.Mathlib.Nat.{le-step, lt-suc-self, add-zero, add-suc, zero-mul, suc-mul}
 use native.Mathlib.Numerals.{add-one}
 use native.Mathlib.Omega.{arith}
-use lib.Dec.{leb, ltb}
+use lib.Dec.{leb}
 use lib.ListN.{length, length-append}
 use borrow.Author.Tests.{le-leb, lt-leb, leb-true, leb-false, lt-ltb}
 use Rattle.base.specs.Counting.{pick, tally}
 use Rattle.base.specs.Tables.{those}
-use Rattle.base.proofs.Bools.{and-both, and-no-left, and-no-right, pick-yes, pick-no, by-test, same-test, and-left, and-right}
+use Rattle.base.proofs.Bools.{by-test, same-test}
 use Rattle.base.proofs.Numbers.{row-of, col-of}
-use Rattle.base.proofs.Tabled.{those-none, those-more, those-ext, length-those}
+use Rattle.base.proofs.Tabled.{those-none, those-ext, length-those}
 use Rattle.rules.specs.Scores.{boxHas, boxCell, boxCells}
 use Rattle.scores.specs.Box.{placeIn, boxRow, boxRows}
 

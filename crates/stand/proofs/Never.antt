@@ -23,7 +23,8 @@ use Rattle.rules.specs.Bounds.{bare}
 use Rattle.rules.specs.Grid.{laidOn}
 use Rattle.rules.specs.Board.{Job, Board, shapeOf, cellIn, boardOf, afterLay, afterLift}
 use Rattle.rules.specs.declared.World.{World}
-use Rattle.stand.specs.Runs.{Call, lay, lift, fresh, refusalOf, step, run, says, placeOf, samePlace, elsewhere}
+use Rattle.rules.specs.Places.{samePlace}
+use Rattle.stand.specs.Runs.{Call, lay, lift, fresh, refusalOf, step, run, says, placeOf, elsewhere}
 use Rattle.stand.proofs.Walls.{On, cell-in, same-place, same-cell}
 use Rattle.stand.proofs.Calls.{InBounds, cellBy, Taken, either, accepts, other, taken, Good, ofPieces, moved, nothing, fresh-good, moved-good}
 use Rattle.stand.proofs.Stands.{movedBy, run-good, run-fresh, says-all}

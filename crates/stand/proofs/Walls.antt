@@ -19,7 +19,8 @@ use Rattle.rules.specs.Places.{cellOf}
 use Rattle.rules.specs.Grid.{numberOf}
 use Rattle.rules.specs.Board.{Job, cellIn}
 use Rattle.rules.specs.declared.World.{World}
-use Rattle.stand.specs.Runs.{wallOf, samePlace}
+use Rattle.rules.specs.Places.{samePlace}
+use Rattle.stand.specs.Runs.{wallOf}
 
 -- a wall coordinate whose cell lies on the board
 pub record On (j : Job) (w : World) : Type 0 where

@@ -1,7 +1,7 @@
 -- Demand 3: runs of lay and lift from a fresh board, refused calls included; what their accepted calls say; the standing pieces alone.
 -- What the calls do, and what the pieces say of weights and counts, stands in the rules' Board.
 use Prim.Native.Nat.{ℕ, _+_, _*_, _/_, _%_}
-use mathlib.Core.Bool.{Bool, _&&_}
+use mathlib.Core.Bool.{_&&_}
 use mathlib.Core.List.{List, [], _∷_, map}
 use lib.Dec.{leb, eqb}
 use lib.ListN.{set}
@@ -9,9 +9,9 @@ use lib.IntN.{pos, _-ℤ_}
 use Rattle.base.specs.Counting.{pick, tally}
 use Rattle.base.specs.Tables.{tab, those, fold}
 use Rattle.base.specs.Refusal.{refusal, unlessRefused}
-use Rattle.base.specs.Whole.{eqZ}
 use Rattle.rules.specs.Bounds.{bare}
 use Rattle.rules.specs.Tests.{tilesIn}
+use Rattle.rules.specs.Places.{samePlace}
 use Rattle.rules.specs.Grid.{laidOn, colourOn}
 use Rattle.rules.specs.Board.{Job, Board, shapeOf, cellIn, freshBoard, layChecks, liftChecks, afterLay, afterLift}
 use Rattle.rules.specs.declared.World.{World}
@@ -98,9 +98,6 @@ lays pieces = map (λ p. lay (p .place) (p .colour)) pieces
 abbrev pub placeOf : Call → World
 placeOf (lay w colour) = w
 placeOf (lift w) = w
-
-abbrev pub samePlace : World → World → Bool
-samePlace v w = eqZ (v .0) (w .0) && eqZ (v .1) (w .1)
 
 -- the calls that name another place than w
 unfoldable pub elsewhere : World → List Call → List Call

@@ -1,14 +1,13 @@
 -- What the calls on a weights plane lean on once their checks have passed, and the chain of their checks in two parts.
 -- Assumes nothing.
-use Prim.Native.Nat.{ℕ, zero, suc, _+_, _*_, _<_, _≤_}
-use mathlib.Core.Path.{_≡_, refl, sym, _∙_, ap}
-use mathlib.Core.Bool.{Bool, true, false}
+use Prim.Native.Nat.{ℕ, _*_}
+use mathlib.Core.Path.{_≡_, refl}
+use mathlib.Core.Bool.{true}
 use mathlib.Core.List.{List}
 use native.Mathlib.Omega.{arith}
-use lib.ListN.{length, getD}
-use Rattle.base.specs.Refusal.{Checks, accepted, _unless_or_, refusal}
+use Rattle.base.specs.Refusal.{accepted, _unless_or_, refusal}
 use Rattle.base.proofs.Chain.{passed, _then_, stopped, went-on, numbered}
-use Rattle.rules.specs.Bounds.{maxWeight, SHAPE, LENGTH, CELL, PLACE}
+use Rattle.rules.specs.Bounds.{maxWeight, LENGTH, CELL, PLACE}
 use Rattle.rules.specs.Tests.{boardSides, hasLength, noneAbove, onBoard}
 use Rattle.rules.specs.Places.{cellOf}
 use Rattle.rules.specs.Fit.{placeChecks}
@@ -16,7 +15,7 @@ use Rattle.rules.specs.Board.{weightChecks}
 use Rattle.rules.specs.declared.World.{World}
 use Rattle.rules.specs.declared.Offset.{Offset}
 use Rattle.checks.proofs.Sides.{board-rows, board-cols, long, none-above}
-use Rattle.places.proofs.Indices.{placed, row-below, col-below}
+use Rattle.places.proofs.Indices.{row-below, col-below}
 use Rattle.steps.specs.Near.{OnPlane, lightFrom, weightsChecks}
 
 -- a plane in bounds, and the cell of a place that was not refused

@@ -1,11 +1,11 @@
 -- What the answer of `near_spans` says: given, the place was not refused and the spans are those round its cell; refused, the place was.
 -- Assumes nothing.
-use Prim.Native.Nat.{ℕ, zero, suc, _+_, _-_, _<_, _≤_, min}
+use Prim.Native.Nat.{ℕ, zero, suc, _+_, min}
 use mathlib.Core.Path.{_≡_, refl, sym, _∙_, ap}
-use mathlib.Core.Bool.{Bool, true, false}
+use mathlib.Core.Bool.{true, false}
 use native.Mathlib.Omega.{arith}
 use lib.IntN.{_+ℤ_}
-use Rattle.base.specs.Refusal.{Checks, accepted, _unless_or_, refusal}
+use Rattle.base.specs.Refusal.{accepted, refusal}
 use Rattle.base.proofs.Bools.{by-test}
 use Rattle.rules.specs.Bounds.{PLACE}
 use Rattle.rules.specs.Tests.{onWall, offsetFits, onBoard}
@@ -17,7 +17,7 @@ use Rattle.rules.specs.declared.Offset.{Offset}
 use Rattle.rules.specs.declared.Span.{Span}
 use Rattle.rules.specs.declared.SpanAnswer.{SpanAnswer}
 use Rattle.rules.specs.declared.SpanAnswer.the-variants.{Spans, Refused}
-use Rattle.places.proofs.Indices.{spanRound, row-below, col-below, row-span, col-span}
+use Rattle.places.proofs.Indices.{row-span, col-span}
 use Rattle.steps.specs.Near.{Nearby, endClipped, nearSpans}
 
 -- two cases of an answer are never equal

@@ -5,14 +5,13 @@
 --     span-end     below the last row
 -- Assumes nothing.
 use Prim.Native.Nat.{ℕ, _+_, _-_, _*_, _/_, _%_, _<_, _≤_}
-use mathlib.Core.Path.{_≡_, refl, sym, _∙_, ap, subst}
+use mathlib.Core.Path.{_≡_, _∙_, ap}
 use mathlib.Core.List.{List}
-use native.Mathlib.Nat.{div-lt-iff-lt-mul, le-div-iff-mul-le, mul-le-mul-right, suc-mul}
-use native.Mathlib.Numerals.{add-one}
+use native.Mathlib.Nat.{div-lt-iff-lt-mul, le-div-iff-mul-le}
 use native.Mathlib.Omega.{arith}
 use lib.ListN.{length, getD}
 use Rattle.base.specs.Tables.{tab}
-use Rattle.base.proofs.Numbers.{row-of, col-of}
+use Rattle.base.proofs.Numbers.{col-of}
 use Rattle.base.proofs.Swept.{swept, swept-none, swept-skip, swept-all}
 
 -- f leaves the cells outside rows top..bottom and columns left..right as they are

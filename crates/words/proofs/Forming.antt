@@ -2,19 +2,19 @@
 -- gives.
 -- Assumes nothing.
 use Prim.Native.Nat.{ℕ, zero, suc, _+_, _-_, _*_, _<_, _≤_}
-use mathlib.Core.Path.{_≡_, refl, sym, _∙_, ap, subst}
+use mathlib.Core.Path.{_≡_, refl, sym, _∙_, ap}
 use mathlib.Core.Bool.{Bool, true, false, _&&_}
-use mathlib.Core.List.{List, [], _∷_, _++_}
+use mathlib.Core.List.{List, [], _∷_}
 use mathlib.Core.Logic.{⊎-elim}
 use native.Mathlib.Omega.{arith}
 use lib.Dec.{leb, eqb}
-use lib.ListN.{length, getD, take, drop, length-drop, drop-of-length-le}
-use lib.Seq.{drop-cons, drop-drop, getD-drop}
-use borrow.Author.Tests.{lt-leb, le-leb, eq-eqb, ne-eqb, eqb-true, eqb-false}
+use lib.ListN.{length, getD, drop, length-drop, drop-of-length-le}
+use lib.Seq.{drop-cons, drop-drop}
+use borrow.Author.Tests.{lt-leb, le-leb, ne-eqb, eqb-true, eqb-false}
 use Rattle.base.specs.Counting.{pick, within}
 use Rattle.base.proofs.Bools.{and-left, and-right, by-test, pick-yes, pick-no}
-use Rattle.base.proofs.Numbers.{mul-le, within-low, within-high, lt-or-le}
-use Rattle.words.specs.Form.{Step, lay, lift, Steps, misformed, steps, andThen, stepsIn, isWhole, listOf, stepEnd, maxSample, maxBoard, sidesUpTo, headFits, sampleCells, tailFits, isFormed, sidesOf, setupOf, formOf}
+use Rattle.base.proofs.Numbers.{mul-le, within-high, lt-or-le}
+use Rattle.words.specs.Form.{Step, lay, lift, Steps, misformed, steps, andThen, stepsIn, isWhole, stepEnd, maxSample, sidesUpTo, headFits, sampleCells, tailFits, isFormed, sidesOf, setupOf, formOf}
 use Rattle.words.specs.declared.Sides.{Sides}
 use Rattle.words.specs.declared.Setup.{Setup}
 use Rattle.words.specs.declared.Form.the-variants as Form·

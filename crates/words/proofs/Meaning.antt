@@ -3,16 +3,16 @@
 -- Assumes nothing.
 use Prim.Native.Nat.{ℕ, zero, suc, _+_, _≤_}
 use mathlib.Core.Path.{_≡_, refl, sym, _∙_, ap, subst}
-use mathlib.Core.Bool.{Bool, true, false, _&&_}
+use mathlib.Core.Bool.{true, _&&_}
 use mathlib.Core.List.{List, [], _∷_, _++_}
 use native.Mathlib.Omega.{arith}
 use lib.ListN.{length, getD, length-append}
 use borrow.Author.Tests.{leb-true, leb-false}
 use lib.Dec.{leb}
-use Rattle.base.specs.Counting.{pick, within}
+use Rattle.base.specs.Counting.{within}
 use Rattle.base.specs.Tables.{fold}
 use Rattle.base.proofs.Bools.{and-right, by-test}
-use Rattle.words.specs.Words.{Reading, spoilt, between, inside, isBlank, withDigit, grows, grown, after, Text, bad, numbers, ended, reading, numbersIn, stateOf, bytesRead}
+use Rattle.words.specs.Words.{Reading, spoilt, between, inside, isBlank, withDigit, grows, grown, after, bad, numbers, ended, reading, numbersIn, stateOf, bytesRead}
 use Rattle.words.specs.Input.{maxInput, maxNumber, inputBlanks, inputText}
 use Rattle.words.specs.Form.{Step, lay, lift, Steps, misformed, steps, andThen, stepsIn}
 use Rattle.words.proofs.Reading.{input-short, input-long, reading-few}

@@ -1,25 +1,24 @@
 -- Laws of reading a text, as the code meets them: what each exit of a step answers, what one byte more makes of the count and of the
 -- store, and that two bytes make at most one number.
 -- Assumes nothing.
-use Prim.Native.Nat.{ℕ, zero, suc, _+_, _-_, _*_, _<_, _≤_, min}
+use Prim.Native.Nat.{ℕ, suc, _+_, _<_, _≤_}
 use mathlib.Core.Path.{_≡_, refl, sym, _∙_, ap, subst}
 use mathlib.Core.Bool.{Bool, true, false, _&&_}
 use mathlib.Core.List.{List, [], _∷_, _++_}
 use native.Mathlib.Numerals.{add-one}
 use native.Mathlib.Omega.{arith}
 use lib.Dec.{leb}
-use lib.ListN.{length, getD, set, take, drop, length-append, length-drop, take-append-drop}
+use lib.ListN.{length, getD, set, take, drop, length-append, take-append-drop}
 use lib.Seq.{take-suc, take-all, drop-cons, append-snoc, set-at}
-use borrow.Author.Tests.{lt-leb, le-leb, leb-true, leb-false}
+use borrow.Author.Tests.{lt-leb, le-leb}
 use Rattle.base.specs.Counting.{pick, within}
 use Rattle.base.specs.Refusal.{Gives}
 use Rattle.base.specs.Tables.{fold}
 use Rattle.base.proofs.Bools.{and-both, and-no-left, and-no-right, by-test}
 use Rattle.base.proofs.Numbers.{within-is}
 use Rattle.base.proofs.Tabled.{fold-append, fold-last}
-use Rattle.words.specs.Words.{Reading, spoilt, between, inside, isBlank, withDigit, grows, grown, after, Text, bad, numbers, ended, reading, numbersIn, parsedInto, over, storeWith, stateOf, grownState, nextState, bytesRead, foundBy, held, entries, begun, Fits}
+use Rattle.words.specs.Words.{Reading, spoilt, between, inside, isBlank, withDigit, grows, grown, after, bad, numbers, ended, reading, numbersIn, parsedInto, over, storeWith, stateOf, grownState, nextState, bytesRead, foundBy, held, entries, begun, Fits}
 use Rattle.words.specs.Input.{maxInput, maxNumber, inputBlanks, inputText}
-use Rattle.words.specs.declared.Parsed.{Parsed}
 use Rattle.words.specs.declared.Parsed.the-variants as Parsed·
 use Rattle.words.specs.declared.Found.{Found}
 use Rattle.words.specs.declared.Found.the-variants as Found·

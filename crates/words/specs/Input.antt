@@ -1,7 +1,6 @@
 -- Document 01, "Listing program": at most 16,384 bytes; decimal numbers 0..=1,000,000, leading zeros allowed, parted by one or more
 -- spaces or line feeds, which may also stand first and last.
 use Prim.Native.Nat.{ℕ}
-use mathlib.Core.Bool.{Bool, true, false}
 use mathlib.Core.List.{List, [], _∷_}
 use lib.Dec.{leb}
 use lib.ListN.{length}

@@ -1,6 +1,6 @@
 -- `board::fill` meets its contract. The loop's invariant: the cells passed hold the value, the rest what they held. Assumes nothing.
-use Prim.Native.Nat.{ℕ, _+_, _-_, _*_, _<_, _≤_}
-use mathlib.Core.Path.{_≡_, refl, sym, _∙_, ap}
+use Prim.Native.Nat.{_-_, _≤_}
+use mathlib.Core.Path.{_≡_, refl, _∙_}
 use native.Mathlib.Omega.{arith}
 use lib.ListN.{length, length-set}
 use Rattle.base.proofs.Swept.{swept, swept-none, swept-turn, swept-all}

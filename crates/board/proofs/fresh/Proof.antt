@@ -1,6 +1,5 @@
 -- `board::fresh` meets its contract: refused by its lengths, by the number of tiles, or three planes filled. Assumes nothing.
-use Prim.Native.Nat.{ℕ}
-use mathlib.Core.Path.{_≡_, refl, sym, _∙_, ap}
+use mathlib.Core.Path.{sym}
 use native.Mathlib.Omega.{arith}
 use Rattle.base.proofs.Bools.{fails, passes}
 use Rattle.rules.proofs.Answered.{gives-refused, gives-done}

@@ -1,7 +1,4 @@
 -- `board::laying_refused` meets its contract, by its four ways out. Assumes nothing.
-use Prim.Native.Nat.{ℕ, _+_, _-_, _*_, _<_, _≤_}
-use mathlib.Core.Path.{_≡_, refl, sym, _∙_, ap}
-use native.Mathlib.Omega.{arith}
 use Rattle.board.specs.Calls.{number}
 use Rattle.board.proofs.Chains.{type-none, type-above, taken, free}
 use borrow.Author.Needs.{needs}

@@ -1,6 +1,6 @@
 -- `board::lengths_refused` meets its contract: a chain of four checks. Assumes nothing.
-use Prim.Native.Nat.{ℕ, _+_, _-_, _*_, _<_, _≤_}
-use mathlib.Core.Path.{_≡_, refl, sym, _∙_, ap}
+use Prim.Native.Nat.{ℕ}
+use mathlib.Core.Path.{_∙_, ap}
 use Rattle.base.proofs.Bools.{passes}
 use Rattle.base.proofs.Chain.{refuse, pass, no-check}
 use Rattle.rules.specs.Tests.{hasLength}

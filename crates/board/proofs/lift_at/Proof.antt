@@ -1,6 +1,4 @@
 -- `board::lift_at` meets its contract: its three steps, joined. Assumes nothing.
-use Prim.Native.Nat.{ℕ, _+_, _-_, _*_, _<_, _≤_}
-use mathlib.Core.Path.{_≡_, refl, sym, _∙_, ap}
 use native.Mathlib.Omega.{arith}
 use Rattle.rules.specs.Board.{lifted}
 use Rattle.fit.proofs.Accepted.{set-countable}

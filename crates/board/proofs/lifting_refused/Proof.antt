@@ -1,7 +1,4 @@
 -- `board::lifting_refused` meets its contract, by its two ways out. Assumes nothing.
-use Prim.Native.Nat.{ℕ, _+_, _-_, _*_, _<_, _≤_}
-use mathlib.Core.Path.{_≡_, refl, sym, _∙_, ap}
-use native.Mathlib.Omega.{arith}
 use Rattle.board.specs.Calls.{number}
 use Rattle.board.proofs.Chains.{stands, bare-there}
 use borrow.Author.Needs.{needs}

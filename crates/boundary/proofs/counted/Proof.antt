@@ -1,7 +1,7 @@
 -- `boundary::counted` meets its contract: each case of the answer gives its number and its values. Assumes nothing.
 use Rattle.boundary.proofs.Back.{stored}
 use Rattle.boundary.specs.Boundary.{countNumber, countLeft}
-use mathlib.Core.Path.{_≡_, refl, sym, _∙_, ap, ap₂}
+use mathlib.Core.Path.{refl}
 use borrow.Author.Needs.{needs}
 use Rattle.boundary.proofs.counted.Statement.{statement}
 use Rattle.boundary.proofs.counted.Tie as tie

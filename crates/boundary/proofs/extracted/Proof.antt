@@ -1,7 +1,7 @@
 -- `boundary::extracted` meets its contract: each case of the answer gives its number and its values. Assumes nothing.
 use Rattle.boundary.proofs.Back.{stored}
 use Rattle.boundary.specs.Boundary.{tilesNumber, tilesLeft}
-use mathlib.Core.Path.{_≡_, refl, sym, _∙_, ap, ap₂}
+use mathlib.Core.Path.{refl}
 use borrow.Author.Needs.{needs}
 use Rattle.boundary.proofs.extracted.Statement.{statement}
 use Rattle.boundary.proofs.extracted.Tie as tie

@@ -1,7 +1,7 @@
 -- `boundary::scanned` meets its contract: each case of the answer gives its number and its values. Assumes nothing.
 use Rattle.boundary.proofs.Back.{stored, then-set}
 use Rattle.boundary.specs.Boundary.{deadEndNumber, deadEndLeft}
-use mathlib.Core.Path.{_≡_, refl, sym, _∙_, ap, ap₂}
+use mathlib.Core.Path.{refl}
 use borrow.Author.Needs.{needs}
 use Rattle.boundary.proofs.scanned.Statement.{statement}
 use Rattle.boundary.proofs.scanned.Tie as tie

@@ -1,7 +1,7 @@
 -- `boundary::spanned` meets its contract: each case of the answer gives its number and its values. Assumes nothing.
 use Rattle.boundary.proofs.Back.{stored, then-set}
 use Rattle.boundary.specs.Boundary.{spanNumber, spanLeft}
-use mathlib.Core.Path.{_≡_, refl, sym, _∙_, ap, ap₂}
+use mathlib.Core.Path.{refl}
 use borrow.Author.Needs.{needs}
 use Rattle.boundary.proofs.spanned.Statement.{statement}
 use Rattle.boundary.proofs.spanned.Tie as tie

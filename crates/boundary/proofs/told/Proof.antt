@@ -1,7 +1,7 @@
 -- `boundary::told` meets its contract: each case of the answer gives its number and its values. Assumes nothing.
 use Rattle.boundary.proofs.Back.{stored, puts}
-use Rattle.boundary.specs.Boundary.{verdictNumber, verdictLeft, digitOf}
-use mathlib.Core.Path.{_≡_, refl, sym, _∙_, ap, ap₂}
+use Rattle.boundary.specs.Boundary.{verdictNumber, verdictLeft}
+use mathlib.Core.Path.{refl}
 use borrow.Author.Needs.{needs}
 use Rattle.boundary.proofs.told.Statement.{statement}
 use Rattle.boundary.proofs.told.Tie as tie

@@ -1,5 +1,5 @@
 -- `checks::tile_number` meets its contract: a chain of one check. Assumes nothing.
-use mathlib.Core.Path.{_≡_, refl, sym, _∙_, ap}
+use mathlib.Core.Path.{ap}
 use Rattle.base.proofs.Chain.{refuse, pass, no-check}
 use Prim.Native.Nat.{ℕ}
 use Rattle.rules.specs.Tests.{tilesIn}

@@ -1,7 +1,6 @@
 -- `copies::extend_array_2d_f64` meets its contract: a refusal leaves the target as it was, else it is filled and the rows are laid in it.
 -- Assumes nothing.
 use borrow.Author.Needs.{needs}
-use Prim.Native.Nat.{ℕ}
 use mathlib.Core.Path.{_≡_}
 use mathlib.Core.List.{List}
 use native.Mathlib.Omega.{arith}

@@ -1,7 +1,6 @@
 -- `copies::extend_array_2d_u32` meets its contract: a refusal leaves the target as it was, else it is filled and the rows are laid in it.
 -- Assumes nothing.
 use borrow.Author.Needs.{needs}
-use mathlib.Core.Path.{_≡_, _∙_, ap}
 use Rattle.base.specs.Refusal.{accepted}
 use Rattle.base.proofs.Chain.{no-check}
 use Rattle.copies.proofs.Calls.{sizes-refused, filled-sizes, copy-done}

@@ -1,7 +1,7 @@
 -- `copies::larger_cells` meets its contract: no sum is more than the side that it is a part of.
 -- Assumes nothing.
 use borrow.Author.Needs.{needs}
-use Prim.Native.Nat.{ℕ, _≤_}
+use Prim.Native.Nat.{_≤_}
 use native.Mathlib.Omega.{arith}
 use Rattle.checks.proofs.Sides.{board-rows, board-cols}
 use Rattle.rules.specs.Places.{newRows, newCols}

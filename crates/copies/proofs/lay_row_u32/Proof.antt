@@ -1,6 +1,6 @@
 -- `copies::lay_row_u32` meets its contract. The loop's invariant: up to the place that is written next the target is laid.
 -- Assumes nothing.
-use Prim.Native.Nat.{ℕ, _+_, _-_, _≤_}
+use Prim.Native.Nat.{_+_, _-_, _≤_}
 use mathlib.Core.Path.{_≡_, refl}
 use borrow.Author.Needs.{needs}
 use native.Mathlib.Omega.{arith}

@@ -1,13 +1,13 @@
 -- `copies::lay_rows_f64` meets its contract. The loop's invariant: the first i rows are laid.
 -- Assumes nothing.
 use borrow.Author.Needs.{needs}
-use Prim.Native.Nat.{ℕ, _+_, _-_, _≤_}
-use mathlib.Core.Path.{_≡_, refl, sym, _∙_, ap}
+use Prim.Native.Nat.{_-_, _≤_}
+use mathlib.Core.Path.{_≡_, refl, _∙_, ap}
 use native.Mathlib.Omega.{arith}
 use lib.ListN.{length}
 use lib.Ieee.{nan}
 use Rattle.checks.proofs.Sides.{board-cols}
-use Rattle.rules.specs.Places.{newRows, newCols}
+use Rattle.rules.specs.Places.{newCols}
 use Rattle.copies.specs.Laid.{laid}
 use Rattle.copies.proofs.Copied.{laid-none, laid-more, laid-length, laid-end}
 use Rattle.copies.proofs.Sides.{RowFits, row-fits}

@@ -2,7 +2,7 @@
 use Rattle.boundary.proofs.Back.{passed-on, world-is, offset-is}
 use Rattle.boundary.specs.Boundary.{listingNumber}
 use Rattle.desk.specs.Found.{coloursLeft}
-use mathlib.Core.Path.{_≡_, refl, sym, _∙_, ap, ap₂}
+use mathlib.Core.Path.{_∙_, ap₂}
 use Rattle.rules.specs.declared.World.{World}
 use Rattle.rules.specs.declared.Offset.{Offset}
 use Rattle.rules.specs.Fit.{listing}

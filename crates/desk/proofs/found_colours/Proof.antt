@@ -2,7 +2,7 @@
 use Rattle.boundary.proofs.Back.{stored}
 use Rattle.boundary.specs.Boundary.{listingNumber}
 use Rattle.desk.specs.Found.{coloursLeft}
-use mathlib.Core.Path.{_≡_, refl}
+use mathlib.Core.Path.{refl}
 use borrow.Author.Needs.{needs}
 use Rattle.desk.proofs.found_colours.Statement.{statement}
 use Rattle.desk.proofs.found_colours.Tie as tie

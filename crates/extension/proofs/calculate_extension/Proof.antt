@@ -1,9 +1,8 @@
 -- `extension::calculate_extension` meets its contract: a refusal is handed on, and without one the pads are worked out.
 -- Assumes nothing.
 use borrow.Author.Needs.{needs}
-use mathlib.Core.Path.{_≡_, sym, _∙_, ap, subst}
-use Rattle.rules.specs.Places.{extensionOf, extensionBy, padsOf}
-use Rattle.rules.specs.declared.Pads.{Pads}
+use mathlib.Core.Path.{sym, _∙_, ap, subst}
+use Rattle.rules.specs.Places.{extensionOf, extensionBy}
 use Rattle.extension.specs.Given.{Reached, PadsIn}
 use Rattle.extension.proofs.Edges.{pads-low}
 use Rattle.extension.proofs.Answers.{extension-refused, extension-given, reached}

@@ -1,7 +1,7 @@
 -- `harness::port_get_region_spans` meets its contract: the answer by its definition, passed on. Assumes nothing.
 use Rattle.boundary.proofs.Back.{passed-on, world-is, offset-is}
 use Rattle.boundary.specs.Boundary.{spanNumber, spanLeft}
-use mathlib.Core.Path.{_≡_, refl, sym, _∙_, ap, ap₂}
+use mathlib.Core.Path.{_∙_, ap₂}
 use Rattle.rules.specs.declared.World.{World}
 use Rattle.rules.specs.declared.Offset.{Offset}
 use Rattle.rules.specs.Places.{regionSpans}

@@ -1,5 +1,5 @@
 -- `harness_forced::port_forced` meets its contract: the answer by its definition, passed on. Assumes nothing.
-use mathlib.Core.Path.{_∙_, ap, ap₂}
+use mathlib.Core.Path.{_∙_, ap₂}
 use Rattle.rules.specs.Forced.{forcedNeighbours}
 use Rattle.rules.specs.declared.World.{World}
 use Rattle.rules.specs.declared.Offset.{Offset}

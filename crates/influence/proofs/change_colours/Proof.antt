@@ -1,20 +1,17 @@
 -- `influence::change_colours` meets its contract: a sweep, colour by colour. Assumes nothing.
 use Prim.Native.Nat.{ℕ, _+_, _-_, _*_, _/_, _%_, _<_, _≤_}
-use mathlib.Core.Path.{_≡_, refl, sym, ap, _∙_}
+use mathlib.Core.Path.{_≡_, sym, ap, _∙_}
 use mathlib.Core.Bool.{Bool}
 use mathlib.Core.List.{List}
 use native.Mathlib.Omega.{arith}
 use native.Mathlib.Nat.{le-refl, zero-mul}
-use lib.ListN.{length, getD, drop}
-use lib.ListN.{take}
+use lib.ListN.{length, getD}
 use lib.Ieee.{Float, nan}
 use Rattle.base.proofs.Numbers.{mul-le}
 use Rattle.rules.specs.declared.Span.{Span}
-use Rattle.floats.specs.Spans.{RegionFits}
 use Rattle.floats.proofs.Sweep.{Sweep, sweep-none, sweep-at, sweep-part, sweep-all, length-part}
 use Rattle.floats.proofs.Rows.{row-room, next-row}
 use Rattle.influence.specs.Step.{regionIn, blockOf, changedAt, colourChanged, coloursChanged}
-use Rattle.influence.specs.Fits.{ColourFits}
 use Rattle.influence.proofs.Step.{colour-change}
 use borrow.Author.Needs.{needs}
 use Rattle.influence.proofs.change_colours.Statement.{statement}

@@ -1,9 +1,8 @@
 -- `influence::change_row` meets its contract, by which step it is. Assumes nothing.
-use mathlib.Core.Path.{_≡_, refl, sym, ap, _∙_}
-use Prim.Native.Nat.{ℕ, _+_, _-_, _*_, _<_, _≤_}
-use mathlib.Core.Bool.{Bool, true, false}
-use lib.ListN.{length, getD, drop}
-use lib.Ieee.{Float, nan}
+use mathlib.Core.Path.{sym, ap, _∙_}
+use mathlib.Core.Bool.{Bool}
+use lib.ListN.{length, getD}
+use lib.Ieee.{nan}
 use Rattle.base.specs.Tables.{tab}
 use Rattle.influence.specs.Step.{changedEntry}
 use borrow.Author.Needs.{needs}

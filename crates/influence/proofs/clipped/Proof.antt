@@ -1,5 +1,4 @@
 -- `influence::clipped` meets its contract: each end is the lesser of itself and the side. Assumes nothing.
-use mathlib.Core.Path.{_≡_, refl, sym, ap, _∙_}
 use borrow.Author.Needs.{needs}
 use Rattle.influence.proofs.clipped.Statement.{statement}
 use Rattle.influence.proofs.clipped.Tie as tie

@@ -1,7 +1,7 @@
 -- `influence::divide_row` meets its contract: a sweep that ends where the row or its factors end. Assumes nothing.
-use Prim.Native.Nat.{ℕ, _+_, _-_, _*_, _<_, _≤_}
-use mathlib.Core.Path.{_≡_, refl, sym, ap, _∙_}
-use lib.ListN.{length, getD, drop}
+use Prim.Native.Nat.{ℕ, _-_, _<_, _≤_}
+use mathlib.Core.Path.{ap, _∙_}
+use lib.ListN.{length, getD}
 use lib.Ieee.{Float, nan}
 use Rattle.floats.proofs.Sweep.{Sweep, sweep-none, sweep-turn, sweep-skip, sweep-all, sweep-old}
 use borrow.Author.Tests.{lt-ltb, le-ltb}
@@ -9,7 +9,6 @@ use Rattle.base.proofs.Bools.{pick-no, and-no-left}
 use native.Mathlib.Omega.{arith}
 use native.Mathlib.Nat.{le-refl}
 use Rattle.base.specs.Counting.{pick}
-use lib.Dec.{ltb}
 use lib.Ieee.{ne}
 use Rattle.rules.specs.Floats.{over, zero64}
 use Rattle.influence.specs.Step.{dividedBy}

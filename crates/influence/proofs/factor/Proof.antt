@@ -1,5 +1,4 @@
 -- `influence::factor` meets its contract, by the test. Assumes nothing.
-use mathlib.Core.Path.{_≡_, refl, sym, ap, _∙_}
 use borrow.Author.Tests.{lt-ltb, le-ltb}
 use borrow.Author.Needs.{needs}
 use Rattle.influence.proofs.factor.Statement.{statement}

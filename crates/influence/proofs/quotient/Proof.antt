@@ -1,5 +1,4 @@
 -- `influence::quotient` meets its contract, by the test. Assumes nothing.
-use mathlib.Core.Path.{_≡_, refl, sym, ap, _∙_}
 use Rattle.influence.proofs.quotient.Statement.{statement}
 use Rattle.influence.proofs.quotient.Tie as tie
 

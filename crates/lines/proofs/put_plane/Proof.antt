@@ -1,7 +1,7 @@
 -- `lines::put_plane` meets its contract. The loop's invariant: the cells passed have been written. Assumes nothing.
-use mathlib.Core.Path.{_≡_, refl, sym, _∙_, ap}
+use mathlib.Core.Path.{_≡_, _∙_}
 use native.Mathlib.Omega.{arith}
-use Prim.Native.Nat.{ℕ, _-_, _≤_}
+use Prim.Native.Nat.{_-_, _≤_}
 use lib.ListN.{length}
 use Rattle.lines.specs.Pages.{Writes}
 use Rattle.lines.specs.Lines.{joined, cellText, planeText}

@@ -1,7 +1,7 @@
 -- `lines::put_text` meets its contract. The loop's invariant: the bytes passed have been written. Assumes nothing.
-use mathlib.Core.Path.{_≡_, refl, sym, _∙_, ap}
+use mathlib.Core.Path.{_≡_, _∙_}
 use native.Mathlib.Omega.{arith}
-use Prim.Native.Nat.{ℕ, _-_, _≤_}
+use Prim.Native.Nat.{_-_, _≤_}
 use lib.ListN.{length, take}
 use Rattle.lines.specs.Pages.{Writes}
 use Rattle.lines.proofs.Written.{writes-none}

@@ -1,9 +1,9 @@
 -- `normal::fill` meets its contract: a sweep. Assumes nothing.
-use Prim.Native.Nat.{ℕ, _+_, _-_, _*_, _<_, _≤_}
-use mathlib.Core.Path.{_≡_, refl, sym, ap, _∙_}
-use lib.ListN.{length, getD, drop}
+use Prim.Native.Nat.{ℕ, _-_}
+use mathlib.Core.Path.{refl, _∙_}
+use lib.ListN.{length}
 use lib.Ieee.{Float, nan}
-use Rattle.floats.proofs.Sweep.{Sweep, sweep-none, sweep-turn, sweep-all, sweep-old}
+use Rattle.floats.proofs.Sweep.{Sweep, sweep-none, sweep-turn, sweep-all}
 use Rattle.normal.proofs.Normal.{map-tab}
 use borrow.Author.Needs.{needs}
 use Rattle.normal.proofs.fill.Statement.{statement}

@@ -1,9 +1,9 @@
 -- `normal::gather` meets its contract: a sweep, which reads another plane. Assumes nothing.
-use Prim.Native.Nat.{ℕ, _+_, _-_, _*_, _<_, _≤_}
-use mathlib.Core.Path.{_≡_, refl, sym, ap, _∙_}
-use lib.ListN.{length, getD, drop}
-use lib.Ieee.{Float, nan}
-use Rattle.floats.proofs.Sweep.{Sweep, sweep-none, sweep-turn, sweep-all, sweep-old}
+use Prim.Native.Nat.{ℕ, _+_, _-_, _*_, _<_}
+use mathlib.Core.Path.{refl}
+use lib.ListN.{length, getD}
+use lib.Ieee.{nan}
+use Rattle.floats.proofs.Sweep.{Sweep, sweep-none, sweep-turn, sweep-all}
 use native.Mathlib.Omega.{arith}
 use borrow.Author.Needs.{scaled-fits}
 use Rattle.base.proofs.Numbers.{cell-lt}

@@ -1,6 +1,6 @@
 -- `normal::normalise` meets its contract, by the two cases of the largest. Assumes nothing.
-use mathlib.Core.Path.{_≡_, refl, sym, ap, _∙_}
-use Prim.Native.Nat.{ℕ, _+_, _-_, _*_, _<_, _≤_}
+use mathlib.Core.Path.{ap, _∙_}
+use Prim.Native.Nat.{ℕ}
 use mathlib.Core.List.{map}
 use lib.Ieee.{Float}
 use Rattle.base.proofs.Bools.{passes, fails}

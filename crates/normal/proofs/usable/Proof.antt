@@ -1,8 +1,7 @@
 -- `normal::usable` meets its contract: two tests, one after the other. Assumes nothing.
-use lib.Ieee.{lt, nanBits}
+use lib.Ieee.{nanBits}
 use Rattle.base.proofs.Bools.{and-go, and-stop}
-use Rattle.rules.specs.Floats.{zero64, inf64}
-use mathlib.Core.Path.{_≡_, refl, sym, ap, _∙_}
+use mathlib.Core.Path.{refl}
 use borrow.Author.Needs.{needs}
 use Rattle.normal.proofs.usable.Statement.{statement}
 use Rattle.normal.proofs.usable.Tie as tie

@@ -11,7 +11,6 @@ use Rattle.rules.specs.Answers.{verdictAnswer}
 use Rattle.rules.specs.Places.{inBox, boxFits, boxContains}
 use Rattle.rules.specs.declared.BoundingBox.{BoundingBox}
 use Rattle.rules.specs.declared.World.{World}
-use Rattle.rules.specs.declared.Verdict.{Verdict}
 use Rattle.rules.specs.declared.Verdict.the-variants.{Is}
 use Rattle.places.proofs.Boxes.{unless-both}
 use Rattle.places.proofs.contains.Statement.{statement}

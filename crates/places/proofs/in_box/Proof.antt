@@ -2,7 +2,6 @@
 -- Assumes nothing.
 use borrow.Author.Needs.{needs}
 use mathlib.Core.Path.{_≡_, sym, _∙_}
-use mathlib.Core.Bool.{Bool, true, false}
 use Rattle.base.specs.Whole.{withinZ}
 use Rattle.base.proofs.Bools.{and-go, and-stop}
 use Rattle.places.proofs.Wide.{same}

@@ -1,9 +1,8 @@
 -- `probabilities::change_probabilities` meets its contract: refused, or every colour changed over the clipped region. Assumes nothing.
 use mathlib.Core.Path.{_≡_, refl, sym, ap, _∙_}
-use Prim.Native.Nat.{ℕ, _*_, _≤_}
+use Prim.Native.Nat.{_*_}
 use native.Mathlib.Omega.{arith}
 use Rattle.rules.specs.Probabilities.{Region, clippedTo}
-use Rattle.rules.specs.declared.Span.{Span}
 use Rattle.checks.proofs.Sides.{few-cells}
 use Rattle.places.proofs.Indices.{spanRound}
 use Rattle.rules.specs.Places.{cellOf}

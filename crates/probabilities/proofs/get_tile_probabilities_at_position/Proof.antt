@@ -1,5 +1,5 @@
 -- `probabilities::get_tile_probabilities_at_position` meets its contract: refused, or taken from the plane and normalised. Assumes nothing.
-use mathlib.Core.Path.{_≡_, refl, sym, ap, _∙_}
+use mathlib.Core.Path.{refl, sym, ap, _∙_}
 use Rattle.floats.proofs.Written.{refused, done}
 use Rattle.rules.specs.Probabilities.{normalised}
 use Rattle.probabilities.proofs.Accept.{Normalises, normalises}

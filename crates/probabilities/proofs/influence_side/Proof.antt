@@ -1,5 +1,5 @@
 -- `probabilities::influence_side` meets its contract, by its two tests. Assumes nothing.
-use mathlib.Core.Path.{_≡_, refl, sym, ap, _∙_}
+use mathlib.Core.Path.{refl}
 use borrow.Author.Tests.{le-leb, lt-leb}
 use Rattle.base.specs.Counting.{within}
 use Rattle.base.proofs.Bools.{and-go, and-stop}

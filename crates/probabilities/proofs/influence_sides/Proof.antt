@@ -1,5 +1,5 @@
 -- `probabilities::influence_sides` meets its contract, by its two tests. Assumes nothing.
-use mathlib.Core.Path.{_≡_, refl, sym, ap, _∙_}
+use mathlib.Core.Path.{sym, _∙_}
 use Rattle.base.proofs.Bools.{and-go, and-stop}
 use borrow.Author.Needs.{needs}
 use Rattle.probabilities.proofs.influence_sides.Statement.{statement}

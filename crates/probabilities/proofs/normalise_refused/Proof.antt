@@ -1,13 +1,11 @@
 -- `probabilities::normalise_refused` meets its contract: each exit answers the first check that fails. Assumes nothing.
-use mathlib.Core.Path.{_≡_, refl, sym, ap, _∙_}
-use Prim.Native.Nat.{ℕ, _+_, _*_, _^_, _<_, _≤_}
+use Prim.Native.Nat.{_*_, _^_, _≤_}
 use Rattle.base.proofs.Chain.{refuse, pass, no-check}
 use Rattle.checks.proofs.Sides.{few-cells}
 use Rattle.base.proofs.Numbers.{mul-le}
 use native.Mathlib.Omega.{arith}
 use Rattle.base.proofs.Bools.{passes}
 use Rattle.rules.specs.Bounds.{SHAPE, LENGTH, COUNT, NUMBER, PLACE}
-use Rattle.rules.specs.Tests.{boardSides}
 use borrow.Author.Needs.{needs}
 use Rattle.probabilities.proofs.normalise_refused.Statement.{statement}
 use Rattle.probabilities.proofs.normalise_refused.Tie as tie

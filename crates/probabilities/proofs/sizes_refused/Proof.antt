@@ -1,6 +1,5 @@
 -- `probabilities::sizes_refused` meets its contract: each exit answers the first check that fails. Assumes nothing.
-use mathlib.Core.Path.{_≡_, refl, sym, ap, _∙_}
-use Prim.Native.Nat.{ℕ, _+_, _*_, _^_, _<_, _≤_}
+use Prim.Native.Nat.{_*_, _^_, _≤_}
 use mathlib.Core.Bool.{_&&_}
 use Rattle.base.proofs.Chain.{refuse, pass, refuse-by, pass-by, no-check}
 use Rattle.checks.proofs.Sides.{few-cells}
@@ -10,7 +9,6 @@ use borrow.Author.Tests.{le-leb, lt-leb}
 use Rattle.base.specs.Counting.{within}
 use Rattle.base.proofs.Bools.{passes, and-left, and-right}
 use Rattle.rules.specs.Bounds.{maxRadius, maxInfluenceSide, SHAPE, LENGTH, COUNT}
-use Rattle.rules.specs.Tests.{boardSides}
 use borrow.Author.Needs.{needs}
 use Rattle.probabilities.proofs.sizes_refused.Statement.{statement}
 use Rattle.probabilities.proofs.sizes_refused.Tie as tie

@@ -1,5 +1,4 @@
 -- `probabilities::step_refused` meets its contract: the sizes first, then each exit answers the first check that fails. Assumes nothing.
-use mathlib.Core.Path.{_≡_, refl, sym, ap, _∙_}
 use Rattle.base.proofs.Chain.{refuse, pass}
 use Rattle.rules.specs.Bounds.{NUMBER}
 use Rattle.influence.specs.Step.{blockOf}

@@ -1,9 +1,8 @@
 -- `probabilities::take_place` meets its contract, by whether the place is on the board. Assumes nothing.
 use mathlib.Core.Bool.{true}
-use mathlib.Core.Path.{_≡_, refl, sym, ap, _∙_}
-use Prim.Native.Nat.{ℕ, _+_, _-_, _*_, _<_, _≤_}
+use mathlib.Core.Path.{_≡_, sym, ap, _∙_}
+use Prim.Native.Nat.{ℕ, _+_, _*_, _<_, _≤_}
 use native.Mathlib.Omega.{arith}
-use lib.ListN.{length}
 use Rattle.base.proofs.Bools.{passes, fails}
 use Rattle.rules.specs.Tests.{onBoard}
 use Rattle.rules.specs.Grid.{numberOf}

@@ -1,5 +1,4 @@
 -- `recount::contents_refused` meets its contract: a chain of four checks. Assumes nothing.
-use mathlib.Core.Path.{_≡_, refl, sym, _∙_, ap}
 use Rattle.base.proofs.Bools.{passes}
 use Rattle.base.proofs.Chain.{refuse, pass, no-check}
 use borrow.Author.Needs.{needs}

@@ -1,5 +1,4 @@
 -- `recount::count_after` meets its contract, by its four ways out. Assumes nothing.
-use mathlib.Core.Path.{_≡_, refl, sym, _∙_, ap}
 use Rattle.recount.proofs.Recounts.{stays-far, stays-low, stays-right, counted}
 use borrow.Author.Needs.{needs}
 use Rattle.recount.proofs.count_after.Statement.{statement}

@@ -1,6 +1,6 @@
 -- `recount::planes_refused` meets its contract: a chain of checks, of which the tiles' is an answer taken apart. Assumes nothing.
 use Prim.Native.Nat.{ℕ}
-use mathlib.Core.Path.{_≡_, refl, sym, _∙_, ap}
+use mathlib.Core.Path.{_∙_, ap}
 use Rattle.base.proofs.Bools.{passes}
 use Rattle.base.proofs.Chain.{refuse, pass, refuse-by, pass-by}
 use Rattle.base.specs.Refusal.{refusal}

@@ -1,9 +1,8 @@
 -- `recount::recount_near` meets its contract. The loop's invariant is `InNear`: the rows passed are recounted, the others are as they were. Assumes nothing.
-use Prim.Native.Nat.{ℕ, _+_, _-_, _*_, _<_, _≤_}
-use mathlib.Core.Path.{_≡_, refl, sym, _∙_, ap}
+use Prim.Native.Nat.{_+_, _-_}
+use mathlib.Core.Path.{_∙_}
 use native.Mathlib.Nat.{min-le-right}
 use native.Mathlib.Omega.{arith}
-use lib.ListN.{length, getD}
 use Rattle.steps.specs.Near.{recountedAt}
 use Rattle.steps.proofs.Nearby.{InNear, near-start, near-in, near-turn, near-end, recounted-far, recounted-is}
 use borrow.Author.Needs.{needs}

@@ -1,8 +1,6 @@
 -- `recount::recount_row` meets its contract. The loop's invariant is `RowUpTo`: the cells passed are recounted, the rest of the row is as it was. Assumes nothing.
-use Prim.Native.Nat.{ℕ, _+_, _-_, _*_, _<_, _≤_}
-use mathlib.Core.Path.{_≡_, refl, sym, _∙_, ap}
+use Prim.Native.Nat.{_-_, _*_, _≤_}
 use native.Mathlib.Omega.{arith}
-use lib.ListN.{length, getD}
 use Rattle.steps.specs.Near.{recountedAt}
 use Rattle.steps.proofs.Rows.{RowUpTo, row-none, row-turn, row-done}
 use Rattle.recount.proofs.Recounts.{recounted-here}

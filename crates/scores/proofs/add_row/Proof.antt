@@ -1,11 +1,11 @@
 -- `scores::add_row` meets its contract. The loop's invariant: the sum so far is that of the row's cells passed. Assumes nothing.
-use mathlib.Core.Path.{_≡_, refl, sym, ap, _∙_}
+use mathlib.Core.Path.{_≡_, sym, ap, _∙_}
 use Prim.Native.Nat.{ℕ, _+_, _-_, _*_, _<_, _≤_}
 use native.Mathlib.Nat.{mul-one, mul-le-mul-right}
 use mathlib.Core.List.{List}
 use lib.Ieee.{Float, binary64, add}
 use native.Mathlib.Omega.{arith}
-use lib.ListN.{length, getD}
+use lib.ListN.{length}
 use lib.Dec.{leb}
 use borrow.Author.Tests.{le-leb}
 use Rattle.base.specs.Tables.{those, fold}

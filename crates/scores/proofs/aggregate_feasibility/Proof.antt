@@ -1,9 +1,8 @@
 -- `scores::aggregate_feasibility` meets its contract: refused, or the region of its spans scored. Assumes nothing.
-use mathlib.Core.Path.{_≡_, refl, sym, ap, _∙_}
-use Prim.Native.Nat.{_≤_}
+use mathlib.Core.Path.{refl, sym, _∙_}
 use native.Mathlib.Omega.{arith}
 use Rattle.floats.proofs.Written.{refused, done}
-use Rattle.scores.specs.Box.{regionScored, orderedSpan}
+use Rattle.scores.specs.Box.{orderedSpan}
 use Rattle.scores.proofs.Accept.{Lifts, lifts}
 use Rattle.scores.proofs.Region.{lift-scored, scores-fit}
 use borrow.Author.Needs.{needs}

@@ -1,5 +1,4 @@
 -- `scores::lay_refused` meets its contract: sides, planes, place. Assumes nothing.
-use mathlib.Core.Path.{_≡_, refl, sym, ap, _∙_}
 use Rattle.base.specs.Refusal.{accepted}
 use Rattle.base.proofs.Bools.{passes}
 use Rattle.base.proofs.Chain.{refuse, pass}

@@ -1,5 +1,4 @@
 -- `scores::lift_refused` meets its contract: sides, the spans' ends, planes. Assumes nothing.
-use mathlib.Core.Path.{_≡_, refl, sym, ap, _∙_}
 use borrow.Author.Tests.{le-leb, lt-leb}
 use Rattle.base.proofs.Bools.{passes}
 use Rattle.base.proofs.Chain.{refuse, pass, refuse-by, pass-by}

@@ -1,5 +1,4 @@
 -- `scores::ordered` meets its contract. Assumes nothing.
-use mathlib.Core.Path.{_≡_, refl, sym, ap, _∙_}
 use borrow.Author.Needs.{needs}
 use Rattle.scores.proofs.ordered.Statement.{statement}
 use Rattle.scores.proofs.ordered.Tie as tie

@@ -1,5 +1,4 @@
 -- `scores::past_targets` meets its contract. Assumes nothing.
-use mathlib.Core.Path.{_≡_, refl, sym, ap, _∙_}
 use borrow.Author.Needs.{needs}
 use Rattle.scores.proofs.past_targets.Statement.{statement}
 use Rattle.scores.proofs.past_targets.Tie as tie

@@ -1,11 +1,9 @@
 -- `scores::planes_refused` meets its contract: each exit answers the first check that fails. Assumes nothing.
-use mathlib.Core.Path.{_≡_, refl, sym, ap, _∙_}
 use native.Mathlib.Omega.{arith}
 use Rattle.base.proofs.Bools.{passes}
 use Rattle.base.proofs.Chain.{refuse, pass, no-check}
 use Rattle.checks.proofs.Sides.{few-cells, tiles-most}
 use Rattle.rules.specs.Bounds.{LENGTH, CELL, NUMBER}
-use Rattle.rules.specs.Tests.{tileNumber}
 use borrow.Author.Needs.{needs}
 use Rattle.scores.proofs.planes_refused.Statement.{statement}
 use Rattle.scores.proofs.planes_refused.Tie as tie

@@ -1,6 +1,6 @@
 -- `scores::score_region` meets its contract: a sweep over the rows of the region. Assumes nothing.
-use mathlib.Core.Path.{_≡_, refl, sym, ap, _∙_}
-use Prim.Native.Nat.{ℕ, _+_, _-_, _*_, _<_, _≤_}
+use mathlib.Core.Path.{refl}
+use Prim.Native.Nat.{_+_, _-_, _*_, _≤_}
 use native.Mathlib.Omega.{arith}
 use lib.ListN.{length}
 use lib.Ieee.{nan}
@@ -8,7 +8,6 @@ use Rattle.base.proofs.Bools.{pick-no}
 use Rattle.floats.proofs.Sweep.{Sweep, length-part}
 use Rattle.floats.proofs.Rows.{rows-start, rows-turn, rows-done, row-room}
 use Rattle.scores.specs.Box.{regionScored}
-use Rattle.scores.specs.Fits.{ScoresFit}
 use Rattle.scores.proofs.Region.{scoredCell, cell-scored}
 use borrow.Author.Needs.{needs}
 use Rattle.scores.proofs.score_region.Statement.{statement}

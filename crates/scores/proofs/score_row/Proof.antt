@@ -1,12 +1,10 @@
 -- `scores::score_row` meets its contract: a sweep. Assumes nothing.
-use mathlib.Core.Path.{_≡_, refl, sym, ap, _∙_}
-use Prim.Native.Nat.{ℕ, _+_, _-_, _*_, _<_, _≤_}
+use Prim.Native.Nat.{ℕ, _+_, _-_}
 use native.Mathlib.Omega.{arith}
 use lib.ListN.{length}
 use lib.Ieee.{nan}
 use Rattle.floats.proofs.Sweep.{Sweep, sweep-none, sweep-turn, sweep-all}
 use Rattle.scores.specs.Box.{scoreAt}
-use Rattle.scores.specs.Fits.{CellFits}
 use borrow.Author.Needs.{needs}
 use Rattle.scores.proofs.score_row.Statement.{statement}
 use Rattle.scores.proofs.score_row.Tie as tie

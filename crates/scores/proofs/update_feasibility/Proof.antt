@@ -1,13 +1,13 @@
 -- `scores::update_feasibility` meets its contract: refused, or the cells past the targets scored. Assumes nothing.
-use mathlib.Core.Path.{_≡_, refl, sym, ap, _∙_}
-use Prim.Native.Nat.{ℕ, _*_, _<_, _≤_}
+use mathlib.Core.Path.{_≡_, refl, sym, _∙_}
+use Prim.Native.Nat.{_<_, _≤_}
 use native.Mathlib.Omega.{arith}
 use Rattle.checks.proofs.Sides.{board-rows, board-cols}
 use Rattle.rules.specs.Places.{cellOf}
 use Rattle.places.proofs.Indices.{spanRound, row-below, col-below}
 use Rattle.floats.proofs.Written.{refused, done}
 use Rattle.floats.proofs.Spanned.{never-refused, rows-round, cols-round}
-use Rattle.scores.specs.Box.{regionScored, pastTargets}
+use Rattle.scores.specs.Box.{pastTargets}
 use Rattle.scores.proofs.Accept.{Lays, lays}
 use Rattle.scores.proofs.Region.{lay-scored, scores-fit}
 use borrow.Author.Needs.{needs}

@@ -1,5 +1,4 @@
 -- `steps::clipped` meets its contract, by its two ways out. Assumes nothing.
-use mathlib.Core.Path.{_≡_, refl, sym, _∙_, ap}
 use native.Mathlib.Nat.{le-of-lt, min-eq-left, min-eq-right}
 use Rattle.steps.proofs.clipped.Statement.{statement}
 use Rattle.steps.proofs.clipped.Tie as tie

@@ -1,8 +1,6 @@
 -- `steps::lower_near` meets its contract. The loop's invariant is `InNear`: the rows passed are done, the others are as they were. Assumes nothing.
-use Prim.Native.Nat.{ℕ, _+_, _-_, _*_, _<_, _≤_}
-use mathlib.Core.Path.{_≡_, refl, sym, _∙_, ap}
-use native.Mathlib.Omega.{arith}
-use lib.ListN.{length, getD}
+use Prim.Native.Nat.{_-_}
+use mathlib.Core.Path.{_∙_}
 use Rattle.steps.specs.Near.{loweredAt}
 use Rattle.steps.proofs.Nearby.{InNear, near-start, near-in, near-turn, near-end, lowered-far, lowered-is}
 use borrow.Author.Needs.{needs}

@@ -1,10 +1,7 @@
 -- `steps::lower_row` meets its contract. The loop's invariant is `RowUpTo`: the cells passed are lowered, the rest of the row is as it was. Assumes nothing.
-use Prim.Native.Nat.{ℕ, _+_, _-_, _*_, _<_, _≤_, max}
-use mathlib.Core.Path.{_≡_, refl, sym, _∙_, ap}
-use mathlib.Core.List.{List}
+use Prim.Native.Nat.{_-_, _*_, _≤_}
 use native.Mathlib.Omega.{arith}
-use lib.ListN.{length, getD, length-set}
-use Rattle.steps.specs.Near.{loweredAt, shareAt}
+use Rattle.steps.specs.Near.{loweredAt}
 use Rattle.steps.proofs.Nearby.{share-cell}
 use Rattle.steps.proofs.Rows.{RowUpTo, row-none, row-turn, row-done}
 use borrow.Author.Needs.{needs}

@@ -1,9 +1,5 @@
 -- `steps::near_spans` meets its contract, by its three ways out. Assumes nothing.
-use mathlib.Core.Path.{_≡_, refl, sym, _∙_, ap}
-use Prim.Native.Nat.{ℕ}
 use Rattle.base.proofs.Bools.{fails, passes}
-use Rattle.rules.specs.declared.Span.{Span}
-use Rattle.rules.specs.declared.SpanAnswer.the-variants.{Spans}
 use Rattle.steps.proofs.Placing.{no-spans, no-board, some-spans}
 use borrow.Author.Needs.{needs}
 use Rattle.steps.proofs.near_spans.Statement.{statement}

@@ -1,9 +1,8 @@
 -- `steps::raise_near` meets its contract. The loop's invariant is `InNear`: the rows passed are done, the others are as they were. Assumes nothing.
-use Prim.Native.Nat.{ℕ, _+_, _-_, _*_, _<_, _≤_}
-use mathlib.Core.Path.{_≡_, refl, sym, _∙_, ap}
+use Prim.Native.Nat.{_-_}
+use mathlib.Core.Path.{_∙_}
 use native.Mathlib.Omega.{arith}
-use lib.ListN.{length, getD}
-use Rattle.steps.specs.Near.{raisedAt, loweredAt, recountedAt}
+use Rattle.steps.specs.Near.{raisedAt}
 use Rattle.steps.proofs.Nearby.{InNear, near-start, near-in, near-rest, near-turn, near-end, raised-far, raised-is}
 use borrow.Author.Needs.{needs}
 use Rattle.steps.proofs.raise_near.Statement.{statement}

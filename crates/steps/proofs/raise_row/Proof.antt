@@ -1,11 +1,9 @@
 -- `steps::raise_row` meets its contract. The loop's invariant is `RowUpTo`: the cells passed are raised, the rest of the row is as it was. Assumes nothing.
 use Prim.Native.Nat.{ℕ, _+_, _-_, _*_, _<_, _≤_, max}
-use mathlib.Core.Path.{_≡_, refl, sym, _∙_, ap}
-use mathlib.Core.List.{List}
 use native.Mathlib.Omega.{arith}
-use lib.ListN.{length, getD, length-set}
+use lib.ListN.{length}
 use Rattle.rules.specs.Grid.{gap}
-use Rattle.steps.specs.Near.{raisedAt, shareAt}
+use Rattle.steps.specs.Near.{raisedAt}
 use Rattle.steps.proofs.Nearby.{share-le, share-cell}
 use Rattle.steps.proofs.Rows.{RowUpTo, row-none, row-turn, row-done}
 use borrow.Author.Needs.{needs}

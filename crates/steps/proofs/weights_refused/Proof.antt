@@ -1,5 +1,5 @@
 -- `steps::weights_refused` meets its contract: a chain of three checks. Assumes nothing.
-use mathlib.Core.Path.{_≡_, refl, sym, _∙_, ap}
+use mathlib.Core.Path.{_∙_, ap}
 use Prim.Native.Nat.{ℕ}
 use Rattle.base.proofs.Bools.{passes}
 use Rattle.rules.specs.Tests.{hasLength}

@@ -1,10 +1,8 @@
 -- `extension::pads::constrain_pads` meets its contract: each pad is held to its side of the box.
 -- Assumes nothing.
 use borrow.Author.Needs.{needs}
-use Prim.Native.Nat.{ℕ}
-use mathlib.Core.Path.{_≡_, _∙_}
+use mathlib.Core.Path.{_∙_}
 use Rattle.rules.specs.Places.{boxedBefore, boxedAfter, boxedPads}
-use Rattle.rules.specs.declared.Pads.{Pads}
 use Rattle.checks.proofs.Sides.{board-rows, board-cols}
 use Rattle.places.proofs.Wide.{same-two}
 use Rattle.extension.proofs.Edges.{four}

@@ -1,21 +1,17 @@
 -- `extension::pads::extension_by` meets its contract: the pads fit 32 bits, and so do their sums with the offset.
 -- Assumes nothing.
 use borrow.Author.Needs.{needs}
-use Prim.Native.Nat.{ℕ}
 use native.Mathlib.Omega.{arith}
 use mathlib.Core.Path.{_≡_}
 use mathlib.Core.Bool.{Bool}
 use lib.IntN.{ℤ, pos}
 use mir.Syntax.{w32}
 use mir.Val.{ofZ}
-use Rattle.rules.specs.Tests.{offsetFits}
 use Rattle.rules.specs.Places.{extensionBy}
-use Rattle.rules.specs.declared.Offset.{Offset}
 use Rattle.rules.specs.declared.Pads.{Pads}
 use Rattle.rules.specs.declared.ExtensionInfo.{ExtensionInfo}
 use Rattle.places.proofs.Wide.{Reads, given, counted, add-fits, added}
 use Rattle.places.proofs.Indices.{offset-low}
-use Rattle.extension.specs.Given.{PadsIn, maxPad}
 use Rattle.extension.proofs.pads.extension_by.Statement.{statement}
 use Rattle.extension.proofs.pads.extension_by.Tie as tie
 

@@ -2,12 +2,10 @@
 -- Assumes nothing.
 use borrow.Author.Needs.{needs}
 use mathlib.Core.Path.{_∙_, ap}
-use mir.Syntax.{w64}
 use Rattle.base.specs.Whole.{clip}
-use Rattle.rules.specs.Places.{padBefore, firstOf}
-use lib.IntN.{pos, _-ℤ_}
-use Rattle.places.proofs.Wide.{Reads, wide, widened, cast-fits, sub-fits, subbed, subB}
-use Rattle.extension.proofs.Edges.{zero-is, reach-is, first-is, firstB}
+use Rattle.rules.specs.Places.{padBefore}
+use Rattle.places.proofs.Wide.{widened, cast-fits, sub-fits, subbed}
+use Rattle.extension.proofs.Edges.{zero-is, reach-is, first-is}
 use Rattle.extension.proofs.pads.pad_before.Statement.{statement}
 use Rattle.extension.proofs.pads.pad_before.Tie as tie
 

@@ -1,10 +1,8 @@
 -- `extension::pads::pads_of` meets its contract: a pad for each end of each side.
 -- Assumes nothing.
 use borrow.Author.Needs.{needs}
-use Prim.Native.Nat.{ℕ}
-use mathlib.Core.Path.{_≡_, _∙_}
+use mathlib.Core.Path.{_∙_}
 use Rattle.rules.specs.Places.{padBefore, padAfter, padsOf}
-use Rattle.rules.specs.declared.Pads.{Pads}
 use Rattle.checks.proofs.Sides.{board-rows, board-cols}
 use Rattle.places.proofs.Wide.{same-two}
 use Rattle.extension.proofs.Edges.{four}

@@ -3,7 +3,6 @@ use Prim.Native.Nat.{_+_, _*_}
 use mathlib.Core.Path.{_≡_, sym, _∙_}
 use native.Mathlib.Omega.{arith}
 use lib.ListN.{getD}
-use lib.Bits.{bitAnd}
 use Rattle.fit.specs.Words.{word}
 use Rattle.fit.proofs.Words.{from-first, left-there, ninth-decides}
 use borrow.Author.Needs.{needs}

@@ -1,9 +1,5 @@
 -- `lister::ending::put_end` meets its contract. Assumes nothing.
-use mathlib.Core.Path.{_≡_, refl, sym, _∙_, ap}
-use Rattle.lines.proofs.Written.{writes-then, writes-as}
-use Rattle.rules.specs.declared.DeadEnd.{DeadEnd}
-use mathlib.Core.List.{_++_}
-use Rattle.lister.specs.Printed.{planesText, scanText, endText, jobWith}
+use Rattle.lines.proofs.Written.{writes-then}
 use Rattle.lister.proofs.Scanned.{dead-end-near, end-is}
 use borrow.Author.Needs.{needs}
 use Rattle.lister.proofs.ending.put_end.Statement.{statement}

@@ -1,5 +1,4 @@
 -- `lister::ending::put_scan` meets its contract, case by case. Assumes nothing.
-use mathlib.Core.Path.{_≡_, refl, sym, _∙_, ap}
 use Rattle.lines.proofs.Written.{writes-as}
 use Rattle.lister.proofs.Scanned.{scan-at, scan-nowhere, scan-refused, near-at}
 use borrow.Author.Needs.{needs}

@@ -1,9 +1,9 @@
 -- `lister::job::copy_cells` meets its contract. The loop's invariant: the cells passed hold their numbers, the others what they held. Assumes nothing.
-use mathlib.Core.Path.{_≡_, refl, sym, _∙_, ap}
+use mathlib.Core.Path.{_≡_, _∙_}
 use native.Mathlib.Omega.{arith}
-use Prim.Native.Nat.{ℕ, _+_, _-_, _≤_, min}
-use lib.ListN.{length, getD}
-use Rattle.base.proofs.Swept.{swept, length-swept, swept-none, swept-turn, swept-all}
+use Prim.Native.Nat.{_-_, _≤_}
+use lib.ListN.{length}
+use Rattle.base.proofs.Swept.{swept, swept-none, swept-turn, swept-all}
 use Rattle.lister.specs.Runs.{clipped, cellByte}
 use borrow.Author.Needs.{needs}
 use Rattle.lister.proofs.job.copy_cells.Statement.{statement}

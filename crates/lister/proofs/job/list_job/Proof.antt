@@ -1,5 +1,5 @@
 -- `lister::job::list_job` meets its contract. Assumes nothing.
-use mathlib.Core.Path.{_≡_, refl, sym, _∙_, ap}
+use mathlib.Core.Path.{sym}
 use native.Mathlib.Omega.{arith}
 use lib.ListN.{length-take}
 use Rattle.lister.proofs.Telling.{cells-few}

@@ -1,7 +1,5 @@
 -- `lister::job::run` meets its contract. Assumes nothing.
-use mathlib.Core.Path.{_≡_, refl, sym, _∙_, ap}
 use Rattle.lister.proofs.Telling.{ran-fresh}
-use Rattle.rules.specs.Board.{Board}
 use Rattle.lister.specs.Printed.{jobWith}
 use borrow.Author.Needs.{needs}
 use Rattle.lister.proofs.job.run.Statement.{statement}

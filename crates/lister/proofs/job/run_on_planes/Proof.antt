@@ -1,8 +1,7 @@
 -- `lister::job::run_on_planes` meets its contract. Assumes nothing.
-use mathlib.Core.Path.{_≡_, refl, sym, _∙_, ap}
+use mathlib.Core.Path.{sym}
 use native.Mathlib.Omega.{arith}
-use lib.ListN.{length, take, length-take}
-use lib.Seq.{length-take-le}
+use lib.ListN.{length-take}
 use Rattle.lister.proofs.Telling.{board-few, board-sides}
 use Rattle.lister.specs.Printed.{jobWith}
 use borrow.Author.Needs.{needs}

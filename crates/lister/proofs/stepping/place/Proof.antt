@@ -1,5 +1,4 @@
 -- `lister::stepping::place` meets its contract. Assumes nothing.
-use mathlib.Core.Path.{_≡_, refl, sym, _∙_, ap}
 use Rattle.lister.proofs.Walking.{coordinate}
 use borrow.Author.Needs.{needs}
 use Rattle.lister.proofs.stepping.place.Statement.{statement}

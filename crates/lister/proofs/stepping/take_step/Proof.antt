@@ -1,5 +1,4 @@
 -- `lister::stepping::take_step` meets its contract. Assumes nothing.
-use mathlib.Core.Path.{_≡_, refl, sym, _∙_, ap}
 use native.Mathlib.Omega.{arith}
 use Prim.Native.Nat.{_+_}
 use Rattle.lister.specs.Printed.{jobWith}

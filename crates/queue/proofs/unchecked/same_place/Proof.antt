@@ -4,7 +4,7 @@ use mir.Syntax.{w32}
 use mir.Val.{SFits}
 use Rattle.base.specs.Whole.{eqZ}
 use Rattle.base.proofs.Bools.{and-go, and-stop}
-use Rattle.rules.specs.Forced.{samePlace}
+use Rattle.rules.specs.Places.{samePlace}
 use Rattle.queue.proofs.Places.{bits-same, bits-other, bits-eqb}
 use Rattle.queue.proofs.unchecked.same_place.Statement.{statement}
 use Rattle.queue.proofs.unchecked.same_place.Tie as tie

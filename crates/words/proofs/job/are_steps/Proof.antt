@@ -1,8 +1,7 @@
 -- `words::job::are_steps` meets its contract. The loop's invariant: what is left is whole exactly if all of it is. Assumes nothing.
-use mathlib.Core.Path.{_≡_, refl, sym, _∙_, ap}
+use mathlib.Core.Path.{_≡_, _∙_, ap}
 use native.Mathlib.Omega.{arith}
 use Prim.Native.Nat.{_-_}
-use mathlib.Core.Bool.{Bool}
 use lib.ListN.{length, drop}
 use Rattle.words.specs.Form.{stepsIn, isWhole}
 use Rattle.words.proofs.Forming.{wholeFrom, whole-is, whole-on, whole-end, goes-on}

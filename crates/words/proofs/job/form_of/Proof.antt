@@ -1,5 +1,5 @@
 -- `words::job::form_of` meets its contract. Assumes nothing.
-use mathlib.Core.Path.{_≡_, refl, sym, _∙_, ap}
+use mathlib.Core.Path.{sym, _∙_}
 use Rattle.words.proofs.Forming.{formed-head, form-is, form-bad}
 use borrow.Author.Needs.{needs}
 use Rattle.words.proofs.job.form_of.Statement.{statement}

@@ -1,7 +1,6 @@
 -- `words::job::is_formed` meets its contract. Assumes nothing.
-use mathlib.Core.Path.{_≡_, refl, sym, _∙_, ap}
+use mathlib.Core.Path.{sym, _∙_, ap}
 use native.Mathlib.Omega.{arith}
-use mathlib.Core.Bool.{Bool}
 use Rattle.words.specs.Form.{isFormed, tailFits}
 use Rattle.base.proofs.Bools.{and-go, and-stop}
 use Rattle.words.proofs.Forming.{few-cells}

@@ -1,5 +1,5 @@
 -- `words::job::sample_cells` meets its contract. Assumes nothing.
-use mathlib.Core.Path.{_≡_, refl, sym, _∙_, ap}
+use mathlib.Core.Path.{_∙_}
 use native.Mathlib.Omega.{arith}
 use Rattle.words.proofs.Forming.{few-cells, cells-are}
 use borrow.Author.Needs.{needs}

@@ -1,7 +1,5 @@
 -- `words::job::setup_of` meets its contract. Assumes nothing.
-use mathlib.Core.Path.{_≡_, refl, sym, _∙_, ap}
 use native.Mathlib.Omega.{arith}
-use Rattle.words.specs.Form.{sidesOf}
 use Rattle.words.proofs.Forming.{few-cells, setup-is, sides-of}
 use borrow.Author.Needs.{needs}
 use Rattle.words.proofs.job.setup_of.Statement.{statement}

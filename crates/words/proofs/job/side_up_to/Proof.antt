@@ -1,5 +1,5 @@
 -- `words::job::side_up_to` meets its contract. Assumes nothing.
-use mathlib.Core.Path.{_≡_, refl, sym, _∙_, ap}
+use mathlib.Core.Path.{refl}
 use borrow.Author.Tests.{le-leb, lt-leb}
 use Rattle.base.specs.Counting.{within}
 use Rattle.base.proofs.Bools.{and-go, and-stop}

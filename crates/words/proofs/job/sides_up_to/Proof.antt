@@ -1,5 +1,5 @@
 -- `words::job::sides_up_to` meets its contract. Assumes nothing.
-use mathlib.Core.Path.{_≡_, refl, sym, _∙_, ap}
+use mathlib.Core.Path.{sym, _∙_}
 use Rattle.words.specs.Form.{sidesUpTo}
 use Rattle.base.proofs.Bools.{and-go, and-stop}
 use borrow.Author.Needs.{needs}

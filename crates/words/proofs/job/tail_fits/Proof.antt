@@ -1,5 +1,4 @@
 -- `words::job::tail_fits` meets its contract. Assumes nothing.
-use mathlib.Core.Path.{_≡_, refl, sym, _∙_, ap}
 use borrow.Author.Tests.{le-leb, lt-leb}
 use Rattle.words.specs.Form.{tailFits}
 use Rattle.base.proofs.Bools.{and-go, and-stop}

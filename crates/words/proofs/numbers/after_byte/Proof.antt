@@ -1,5 +1,5 @@
 -- `words::numbers::after_byte` meets its contract, exit by exit. Assumes nothing.
-use mathlib.Core.Path.{_≡_, refl, sym, _∙_, ap}
+use mathlib.Core.Path.{sym, _∙_, ap}
 use native.Mathlib.Omega.{arith}
 use Rattle.words.specs.Words.{bytesRead}
 use Rattle.words.proofs.Reading.{next-spoilt, next-blank, next-first, next-end, next-digit}

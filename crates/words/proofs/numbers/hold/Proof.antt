@@ -1,5 +1,5 @@
 -- `words::numbers::hold` meets its contract. Assumes nothing.
-use mathlib.Core.Path.{_≡_, refl, sym, _∙_, ap}
+use mathlib.Core.Path.{sym, ap}
 use native.Mathlib.Omega.{arith}
 use Rattle.words.specs.declared.State.{State}
 use Rattle.words.specs.Words.{held, entries}

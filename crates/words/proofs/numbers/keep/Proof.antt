@@ -1,6 +1,5 @@
 -- `words::numbers::keep` meets its contract. The loop's invariant: the state is what the bytes passed make, and the store starts with the
 -- numbers begun so far. Assumes nothing.
-use mathlib.Core.Path.{_≡_, refl, sym, _∙_, ap}
 use native.Mathlib.Omega.{arith}
 use Prim.Native.Nat.{_-_}
 use lib.ListN.{length}

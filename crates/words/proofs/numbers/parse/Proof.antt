@@ -1,5 +1,4 @@
 -- `words::numbers::parse` meets its contract: what the survey found decides it. Assumes nothing.
-use mathlib.Core.Path.{_≡_, refl, sym, _∙_, ap}
 use Rattle.words.proofs.Reading.{parse-bad, parse-full, parse-fits, parse-done}
 use borrow.Author.Needs.{needs}
 use Rattle.words.proofs.numbers.parse.Statement.{statement}

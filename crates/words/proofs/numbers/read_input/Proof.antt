@@ -1,6 +1,5 @@
 -- `words::numbers::read_input` meets its contract. Assumes nothing.
-use mathlib.Core.Path.{_≡_, refl, sym, _∙_, ap}
-use Rattle.base.specs.Refusal.{Gives}
+use mathlib.Core.Path.{refl}
 use Rattle.words.proofs.Reading.{input-long, input-short}
 use borrow.Author.Needs.{needs}
 use Rattle.words.proofs.numbers.read_input.Statement.{statement}

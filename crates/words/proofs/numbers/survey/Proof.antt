@@ -1,5 +1,5 @@
 -- `words::numbers::survey` meets its contract. The loop's invariant: the state is what the bytes passed make. Assumes nothing.
-use mathlib.Core.Path.{_≡_, refl, sym, _∙_, ap}
+use mathlib.Core.Path.{sym, _∙_, ap}
 use native.Mathlib.Omega.{arith}
 use Prim.Native.Nat.{_-_}
 use lib.ListN.{length}
