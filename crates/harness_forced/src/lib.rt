@@ -10,6 +10,7 @@ use boundary::offset_at;
 use boundary::told;
 use boundary::world_at;
 
+mod lent;
 mod slices;
 
 #[no_mangle]
@@ -67,7 +68,7 @@ pub extern "C" fn port_queue_add(
     let n = slices::length_at(len);
     let queue = slices::queue_from(coordinates, colours, n);
     let added = slices::positions_from(addedcoordinates, addedcolours, addedlen);
-    let grown = queue::add_positions(queue, added);
+    let grown = lent::add_positions(queue, added);
     let answer = grown.answer;
     let after = grown.queue;
     slices::added_given(answer, after, coordinates, colours, len)
@@ -86,7 +87,7 @@ pub extern "C" fn port_queue_take(
 {
     let n = slices::length_at(len);
     let queue = slices::queue_from(coordinates, colours, n);
-    let answer = queue::take_next(queue);
+    let answer = lent::take_next(queue);
     let next = answer.next;
     let left = answer.queue;
     slices::taken_given(next, left, coordinates, colours, len, taken, colour, found)
