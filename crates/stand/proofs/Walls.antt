@@ -65,7 +65,7 @@ module _ (j : Job) where
       ∙ +ℤ-negℤ-cancel y o
 
   pub same-place : (v w : World) → On j v → On j w → cellIn j v ≡ cellIn j w → samePlace v w ≡ true
-  unfolding numberOf cellOf
+  unfolding samePlace numberOf cellOf
   same-place v w onv onw e =
       let cv : clip (colZ v) < j .cols = index-clip (j .cols) (colZ v) (col-on onv) in
       let cw : clip (colZ w) < j .cols = index-clip (j .cols) (colZ w) (col-on onw) in
@@ -79,7 +79,7 @@ module _ (j : Job) where
 
   -- and one place has one cell
   pub same-cell : (v w : World) → samePlace v w ≡ true → cellIn j v ≡ cellIn j w
-  unfolding numberOf cellOf
+  unfolding samePlace numberOf cellOf
   same-cell v w e =
       let r : v .0 ≡ w .0 = eqZ-true (v .0) (w .0) (and-left (eqZ (v .0) (w .0)) (eqZ (v .1) (w .1)) e) in
       let c : v .1 ≡ w .1 = eqZ-true (v .1) (w .1) (and-right (eqZ (v .0) (w .0)) (eqZ (v .1) (w .1)) e) in

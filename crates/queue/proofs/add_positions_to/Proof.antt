@@ -52,13 +52,17 @@ use Rattle.rules.proofs.Written.Laws as A″
 use Rattle.queue.proofs.Walks.{alone, asked, asks}
 use Rattle.queue.proofs.add_positions as add
 use Rattle.queue.proofs.add_positions.Symbol as add-def
+use Rattle.queue.proofs.add_positions.Symbol.{name as #add-positions}
 use Rattle.queue.proofs.add_positions.Met as add-thm
 use Rattle.queue.proofs.grown_queue as left
 use Rattle.queue.proofs.grown_queue.Symbol as left-def
+use Rattle.queue.proofs.grown_queue.Symbol.{name as #grown-queue}
 use Rattle.queue.proofs.grown_queue.Met as left-thm
 use Rattle.queue.proofs.grown_answer as answer
 use Rattle.queue.proofs.grown_answer.Symbol as answer-def
+use Rattle.queue.proofs.grown_answer.Symbol.{name as #grown-answer}
 use Rattle.queue.proofs.grown_answer.Met as answer-thm
+use Rattle.queue.proofs.add_positions_to.Key.{name as #add-positions-to}
 use Rattle.queue.proofs.add_positions_to as own
 use Rattle.queue.proofs.add_positions_to.Statement as stated
 use Rattle.queue.proofs.add_positions_to.Code as code

@@ -49,13 +49,17 @@ use Rattle.rules.proofs.Next.Laws as N′
 use Rattle.queue.proofs.Walks.{alone, asked, asks}
 use Rattle.queue.proofs.take_next as take
 use Rattle.queue.proofs.take_next.Symbol as take-def
+use Rattle.queue.proofs.take_next.Symbol.{name as #take-next}
 use Rattle.queue.proofs.take_next.Met as take-thm
 use Rattle.queue.proofs.taken_queue as left
 use Rattle.queue.proofs.taken_queue.Symbol as left-def
+use Rattle.queue.proofs.taken_queue.Symbol.{name as #taken-queue}
 use Rattle.queue.proofs.taken_queue.Met as left-thm
 use Rattle.queue.proofs.taken_next as next
 use Rattle.queue.proofs.taken_next.Symbol as next-def
+use Rattle.queue.proofs.taken_next.Symbol.{name as #taken-next}
 use Rattle.queue.proofs.taken_next.Met as next-thm
+use Rattle.queue.proofs.take_next_from.Key.{name as #take-next-from}
 use Rattle.queue.proofs.take_next_from as own
 use Rattle.queue.proofs.take_next_from.Statement as stated
 use Rattle.queue.proofs.take_next_from.Code as code
