@@ -12,7 +12,7 @@ use crate::list::word;
 use crate::list::words_are;
 use crate::list::words_in;
 
-pub fn region_count(words: &[u64], marks: &[u64]) -> bool {
+fn region_count(words: &[u64], marks: &[u64]) -> bool {
     let mut pieceroom = [0u32; ROOM];
     let pieces = words_in(words, marks, 0, &mut pieceroom);
     let mut tileroom = [0u8; ROOM];
@@ -31,7 +31,7 @@ pub fn region_count(words: &[u64], marks: &[u64]) -> bool {
     told(words, marks, 7, number) && longs_are(words, marks, 8, &out)
 }
 
-pub fn fraction(words: &[u64], marks: &[u64]) -> bool {
+fn fraction(words: &[u64], marks: &[u64]) -> bool {
     let mut countroom = [0u32; ROOM];
     let counts = words_in(words, marks, 0, &mut countroom);
     let mut out = [untouched(); 1];
@@ -47,7 +47,7 @@ pub fn fraction(words: &[u64], marks: &[u64]) -> bool {
     told(words, marks, 6, number) && floats_are(words, marks, 7, &out)
 }
 
-pub fn listing(words: &[u64], marks: &[u64]) -> bool {
+fn listing(words: &[u64], marks: &[u64]) -> bool {
     let mut pieceroom = [0u32; ROOM];
     let pieces = words_in(words, marks, 0, &mut pieceroom);
     let mut tileroom = [0u8; ROOM];
@@ -68,7 +68,7 @@ pub fn listing(words: &[u64], marks: &[u64]) -> bool {
     told(words, marks, 9, number) && words_are(words, marks, 10, &out)
 }
 
-pub fn scan(words: &[u64], marks: &[u64]) -> bool {
+fn scan(words: &[u64], marks: &[u64]) -> bool {
     let mut pieceroom = [0u32; ROOM];
     let pieces = words_in(words, marks, 0, &mut pieceroom);
     let mut weightroom = [0u32; ROOM];
@@ -88,7 +88,7 @@ pub fn scan(words: &[u64], marks: &[u64]) -> bool {
     told(words, marks, 6, number) && longs_are(words, marks, 7, &out)
 }
 
-pub fn raise(words: &[u64], marks: &[u64]) -> bool {
+fn raise(words: &[u64], marks: &[u64]) -> bool {
     let mut weightroom = [0u32; ROOM];
     let weights = words_in(words, marks, 0, &mut weightroom);
     let number = harness::port_raise_weights(
@@ -103,7 +103,7 @@ pub fn raise(words: &[u64], marks: &[u64]) -> bool {
     told(words, marks, 7, number) && words_are(words, marks, 8, weights)
 }
 
-pub fn lower(words: &[u64], marks: &[u64]) -> bool {
+fn lower(words: &[u64], marks: &[u64]) -> bool {
     let mut weightroom = [0u32; ROOM];
     let weights = words_in(words, marks, 0, &mut weightroom);
     let number = harness::port_lower_weights(
@@ -118,7 +118,7 @@ pub fn lower(words: &[u64], marks: &[u64]) -> bool {
     told(words, marks, 7, number) && words_are(words, marks, 8, weights)
 }
 
-pub fn recount(words: &[u64], marks: &[u64]) -> bool {
+fn recount(words: &[u64], marks: &[u64]) -> bool {
     let mut countroom = [0u32; ROOM];
     let counts = words_in(words, marks, 0, &mut countroom);
     let mut pieceroom = [0u32; ROOM];
@@ -140,7 +140,7 @@ pub fn recount(words: &[u64], marks: &[u64]) -> bool {
     told(words, marks, 10, number) && words_are(words, marks, 11, counts)
 }
 
-pub fn fresh(words: &[u64], marks: &[u64]) -> bool {
+fn fresh(words: &[u64], marks: &[u64]) -> bool {
     let mut pieceroom = [0u32; ROOM];
     let pieces = words_in(words, marks, 0, &mut pieceroom);
     let mut weightroom = [0u32; ROOM];
@@ -161,7 +161,7 @@ pub fn fresh(words: &[u64], marks: &[u64]) -> bool {
         && words_are(words, marks, 9, counts)
 }
 
-pub fn lay(words: &[u64], marks: &[u64]) -> bool {
+fn lay(words: &[u64], marks: &[u64]) -> bool {
     let mut pieceroom = [0u32; ROOM];
     let pieces = words_in(words, marks, 0, &mut pieceroom);
     let mut weightroom = [0u32; ROOM];
@@ -190,7 +190,7 @@ pub fn lay(words: &[u64], marks: &[u64]) -> bool {
         && words_are(words, marks, 15, counts)
 }
 
-pub fn lift(words: &[u64], marks: &[u64]) -> bool {
+fn lift(words: &[u64], marks: &[u64]) -> bool {
     let mut pieceroom = [0u32; ROOM];
     let pieces = words_in(words, marks, 0, &mut pieceroom);
     let mut weightroom = [0u32; ROOM];
@@ -216,4 +216,20 @@ pub fn lift(words: &[u64], marks: &[u64]) -> bool {
         && words_are(words, marks, 12, pieces)
         && words_are(words, marks, 13, weights)
         && words_are(words, marks, 14, counts)
+}
+
+// Whether a step of this family answers as recorded.
+pub fn answers(step: usize, words: &[u64], marks: &[u64]) -> bool {
+    match step {
+        0 => region_count(words, marks),
+        1 => fraction(words, marks),
+        2 => listing(words, marks),
+        3 => scan(words, marks),
+        4 => raise(words, marks),
+        5 => lower(words, marks),
+        6 => recount(words, marks),
+        7 => fresh(words, marks),
+        8 => lay(words, marks),
+        _ => lift(words, marks),
+    }
 }

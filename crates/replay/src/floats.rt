@@ -8,11 +8,11 @@ use crate::list::told;
 use crate::list::word;
 use crate::list::words_in;
 
-pub fn normalise(words: &[u64], marks: &[u64]) -> bool {
-    let mut planes = [0.0; ROOM];
-    let probabilities = floats_in(words, marks, 0, &mut planes);
-    let mut room = [0.0; ROOM];
-    let out = floats_in(words, marks, 8, &mut room);
+fn normalise(words: &[u64], marks: &[u64]) -> bool {
+    let mut planeroom = [0.0; ROOM];
+    let probabilities = floats_in(words, marks, 0, &mut planeroom);
+    let mut outroom = [0.0; ROOM];
+    let out = floats_in(words, marks, 8, &mut outroom);
     let number = harness_floats::port_normalise(
         probabilities,
         size(words, marks, 1),
@@ -27,11 +27,11 @@ pub fn normalise(words: &[u64], marks: &[u64]) -> bool {
     told(words, marks, 9, number) && floats_are(words, marks, 10, out)
 }
 
-pub fn product(words: &[u64], marks: &[u64]) -> bool {
-    let mut planes = [0.0; ROOM];
-    let probabilities = floats_in(words, marks, 0, &mut planes);
-    let mut room = [0.0; ROOM];
-    let block = floats_in(words, marks, 4, &mut room);
+fn product(words: &[u64], marks: &[u64]) -> bool {
+    let mut planeroom = [0.0; ROOM];
+    let probabilities = floats_in(words, marks, 0, &mut planeroom);
+    let mut blockroom = [0.0; ROOM];
+    let block = floats_in(words, marks, 4, &mut blockroom);
     let number = harness_floats::port_product(
         probabilities,
         size(words, marks, 1),
@@ -49,11 +49,11 @@ pub fn product(words: &[u64], marks: &[u64]) -> bool {
     told(words, marks, 12, number) && floats_are(words, marks, 13, probabilities)
 }
 
-pub fn quotient(words: &[u64], marks: &[u64]) -> bool {
-    let mut planes = [0.0; ROOM];
-    let probabilities = floats_in(words, marks, 0, &mut planes);
-    let mut room = [0.0; ROOM];
-    let block = floats_in(words, marks, 4, &mut room);
+fn quotient(words: &[u64], marks: &[u64]) -> bool {
+    let mut planeroom = [0.0; ROOM];
+    let probabilities = floats_in(words, marks, 0, &mut planeroom);
+    let mut blockroom = [0.0; ROOM];
+    let block = floats_in(words, marks, 4, &mut blockroom);
     let number = harness_floats::port_quotient(
         probabilities,
         size(words, marks, 1),
@@ -71,11 +71,11 @@ pub fn quotient(words: &[u64], marks: &[u64]) -> bool {
     told(words, marks, 12, number) && floats_are(words, marks, 13, probabilities)
 }
 
-pub fn lay_score(words: &[u64], marks: &[u64]) -> bool {
-    let mut plane = [0.0; ROOM];
-    let scores = floats_in(words, marks, 0, &mut plane);
-    let mut room = [0u32; ROOM];
-    let counts = words_in(words, marks, 1, &mut room);
+fn lay_score(words: &[u64], marks: &[u64]) -> bool {
+    let mut scoreroom = [0.0; ROOM];
+    let scores = floats_in(words, marks, 0, &mut scoreroom);
+    let mut countroom = [0u32; ROOM];
+    let counts = words_in(words, marks, 1, &mut countroom);
     let number = harness_floats::port_lay_score(
         scores,
         counts,
@@ -90,11 +90,11 @@ pub fn lay_score(words: &[u64], marks: &[u64]) -> bool {
     told(words, marks, 9, number) && floats_are(words, marks, 10, scores)
 }
 
-pub fn lift_score(words: &[u64], marks: &[u64]) -> bool {
-    let mut plane = [0.0; ROOM];
-    let scores = floats_in(words, marks, 0, &mut plane);
-    let mut room = [0u32; ROOM];
-    let counts = words_in(words, marks, 1, &mut room);
+fn lift_score(words: &[u64], marks: &[u64]) -> bool {
+    let mut scoreroom = [0.0; ROOM];
+    let scores = floats_in(words, marks, 0, &mut scoreroom);
+    let mut countroom = [0u32; ROOM];
+    let counts = words_in(words, marks, 1, &mut countroom);
     let number = harness_floats::port_lift_score(
         scores,
         counts,
@@ -107,4 +107,15 @@ pub fn lift_score(words: &[u64], marks: &[u64]) -> bool {
         size(words, marks, 8),
     );
     told(words, marks, 9, number) && floats_are(words, marks, 10, scores)
+}
+
+// Whether a step of this family answers as recorded.
+pub fn answers(step: usize, words: &[u64], marks: &[u64]) -> bool {
+    match step {
+        0 => normalise(words, marks),
+        1 => product(words, marks),
+        2 => quotient(words, marks),
+        3 => lay_score(words, marks),
+        _ => lift_score(words, marks),
+    }
 }

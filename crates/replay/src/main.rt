@@ -2,62 +2,26 @@
 // its README). Each record's call is made again, and its answer and all that it may write are compared with the record.
 mod board;
 mod floats;
+mod forced;
 mod list;
 mod places;
 mod sets;
+mod tiles;
 
 use libc::STDOUT_FILENO;
 
 const LONGEST_FILE: usize = 24576;
 
-// A step's number, and its call for the record that is split in words and parts.
-fn placed(step: usize, words: &[u64], marks: &[u64]) -> bool {
-    places::spans(words, marks)
-}
-
-fn in_set(step: usize, words: &[u64], marks: &[u64]) -> bool {
-    match step {
-        10 => sets::new(words, marks),
-        11 => sets::all(words, marks),
-        12 => sets::insert(words, marks),
-        13 => sets::contains(words, marks),
-        14 => sets::intersection(words, marks),
-        15 => sets::is_empty(words, marks),
-        _ => sets::count(words, marks),
-    }
-}
-
-fn on_board(step: usize, words: &[u64], marks: &[u64]) -> bool {
-    match step {
-        20 => board::region_count(words, marks),
-        21 => board::fraction(words, marks),
-        22 => board::listing(words, marks),
-        23 => board::scan(words, marks),
-        24 => board::raise(words, marks),
-        25 => board::lower(words, marks),
-        26 => board::recount(words, marks),
-        27 => board::fresh(words, marks),
-        28 => board::lay(words, marks),
-        _ => board::lift(words, marks),
-    }
-}
-
-fn in_floats(step: usize, words: &[u64], marks: &[u64]) -> bool {
-    match step {
-        30 => floats::normalise(words, marks),
-        31 => floats::product(words, marks),
-        32 => floats::quotient(words, marks),
-        33 => floats::lay_score(words, marks),
-        _ => floats::lift_score(words, marks),
-    }
-}
-
-fn same(step: usize, words: &[u64], marks: &[u64]) -> bool {
+// A step's number: the tens are its family, whose module has the family's steps by the ones.
+fn answers(step: usize, words: &[u64], marks: &[u64]) -> bool {
+    let one = step % 10;
     match step / 10 {
-        0 => placed(step, words, marks),
-        1 => in_set(step, words, marks),
-        2 => on_board(step, words, marks),
-        _ => in_floats(step, words, marks),
+        0 => places::answers(one, words, marks),
+        1 => tiles::answers(one, words, marks),
+        2 => sets::answers(one, words, marks),
+        3 => board::answers(one, words, marks),
+        4 => forced::answers(one, words, marks),
+        _ => floats::answers(one, words, marks),
     }
 }
 
@@ -66,7 +30,7 @@ fn as_recorded(step: usize, line: &[u8]) -> bool {
     let mut words = [0u64; list::WORDS];
     let mut marks = [0u64; list::MARKS];
     list::split(line, &mut words, &mut marks);
-    same(step, &words, &marks)
+    answers(step, &words, &marks)
 }
 
 // Where the line that starts here ends, what ends it included.
@@ -136,28 +100,68 @@ fn replay(step: usize, name: &[u8]) {
     replay_all(step, &input[..read]);
 }
 
-fn main() {
+fn replay_places() {
     replay(0, b"spans");
-    replay(10, b"set-new");
-    replay(11, b"set-all");
-    replay(12, b"set-insert");
-    replay(13, b"set-contains");
-    replay(14, b"set-intersection");
-    replay(15, b"set-is-empty");
-    replay(16, b"set-count");
-    replay(20, b"region-count");
-    replay(21, b"fraction");
-    replay(22, b"listing");
-    replay(23, b"scan");
-    replay(24, b"weights-up");
-    replay(25, b"weights-down");
-    replay(26, b"recount");
-    replay(27, b"fresh");
-    replay(28, b"lay");
-    replay(29, b"lift");
-    replay(30, b"normalise");
-    replay(31, b"product");
-    replay(32, b"quotient");
-    replay(33, b"lay-score");
-    replay(34, b"lift-score");
+    replay(1, b"box");
+    replay(2, b"extension");
+    replay(3, b"boxed-extension");
+    replay(4, b"copy-u32");
+    replay(5, b"copy-f64");
+}
+
+fn replay_tiles() {
+    replay(10, b"extract");
+    replay(11, b"rotate");
+    replay(12, b"reflect");
+    replay(13, b"membership");
+}
+
+fn replay_sets() {
+    replay(20, b"set-new");
+    replay(21, b"set-all");
+    replay(22, b"set-insert");
+    replay(23, b"set-contains");
+    replay(24, b"set-intersection");
+    replay(25, b"set-is-empty");
+    replay(26, b"set-count");
+    replay(27, b"set-to-vec");
+}
+
+fn replay_board() {
+    replay(30, b"region-count");
+    replay(31, b"fraction");
+    replay(32, b"listing");
+    replay(33, b"scan");
+    replay(34, b"weights-up");
+    replay(35, b"weights-down");
+    replay(36, b"recount");
+    replay(37, b"fresh");
+    replay(38, b"lay");
+    replay(39, b"lift");
+}
+
+fn replay_forced() {
+    replay(40, b"forced");
+    replay(40, b"boxed-forced");
+    replay(41, b"queue-add");
+    replay(42, b"queue-take");
+    replay(43, b"queue-is-empty");
+    replay(44, b"queue-len");
+}
+
+fn replay_floats() {
+    replay(50, b"normalise");
+    replay(51, b"product");
+    replay(52, b"quotient");
+    replay(53, b"lay-score");
+    replay(54, b"lift-score");
+}
+
+fn main() {
+    replay_places();
+    replay_tiles();
+    replay_sets();
+    replay_board();
+    replay_forced();
+    replay_floats();
 }
