@@ -11,8 +11,9 @@ pub mod tiles;
 
 use crate::calls::Refusal;
 use crate::inputs::{self, TileList};
-use crate::outcome::{Damage, Outcome, Value, set_damage};
+use crate::outcome::{Damage, Outcome, Plane, Value, set_damage};
 use crate::random::{Random, name_seed};
+use crate::record::{self, Parts};
 use std::fmt::Debug;
 use std::panic::{AssertUnwindSafe, catch_unwind};
 use std::time::Instant;
@@ -53,6 +54,25 @@ pub trait Input: Clone + Debug {
 
     /// By the port.
     fn observed(&self) -> Outcome;
+
+    /// For the fixed list: the arguments of the port's exported function in their order, without the slices lent for its
+    /// answer. Nothing where there is no such function.
+    fn arguments(&self) -> Option<Parts> {
+        None
+    }
+
+    /// For the fixed list: what each slice lent for an answer holds after the call; nothing where it is refused.
+    fn told(&self, answer: Option<&[Value]>) -> Parts {
+        Parts::new().slice(answer.unwrap_or_default())
+    }
+
+    /// For the fixed list: the planes that the call may write, in the slices that they are lent in.
+    fn left(&self, planes: &[Plane]) -> Parts {
+        planes.iter().fold(Parts::new(), Parts::plane)
+    }
+
+    /// For the fixed list: shortens what no call reads.
+    fn tidy(&mut self) {}
 }
 
 /// What there is to compare in a step: it decides which mutants it has.
@@ -308,7 +328,7 @@ pub fn run<I: Input>(name: &'static str, share: u64, step: I::Step, plan: &Plan)
 
 /// The input with one to four faults. The lowest number speaks, so of several such inputs that with the highest is taken,
 /// or the high ones would hardly be heard.
-fn spoil<I: Input>(input: &I, random: &mut Random) -> I {
+pub fn spoil<I: Input>(input: &I, random: &mut Random) -> I {
     let spoil_once = |random: &mut Random| {
         let mut spoilt = input.clone();
         for _ in 0..1 + random.below(4) {
@@ -331,12 +351,15 @@ pub struct Named {
     pub name: &'static str,
     pub shows: Shows,
     pub run: Box<dyn Fn(&Plan) -> Tally>,
+    /// lines of the fixed list, by the seed
+    pub records: Box<dyn Fn(u64) -> Vec<String>>,
 }
 
 fn family<I: Input + 'static>(all: &mut Vec<Named>) {
     for &(name, share, step) in I::STEPS {
         let run = Box::new(move |plan: &Plan| run::<I>(name, share, step, plan));
-        all.push(Named { name, shows: I::shows(step), run });
+        let records = Box::new(move |seed: u64| record::records::<I>(name, step, seed));
+        all.push(Named { name, shows: I::shows(step), run, records });
     }
 }
 

@@ -5,6 +5,7 @@ mod compare;
 mod inputs;
 mod outcome;
 mod random;
+mod record;
 mod refusals;
 mod speed;
 
@@ -21,6 +22,7 @@ mod model;
 use model as side;
 
 use compare::{Meddle, Named, Plan, Tally};
+use std::path::{Path, PathBuf};
 use std::process::ExitCode;
 use std::time::Instant;
 
@@ -35,6 +37,7 @@ const USE: &str = "differential: the text and the port on the same inputs
   --list         names the steps and the mutants
   --mutant NAME  disturbs the port's side of one comparison; a difference must show
   --mutants      each mutant in turn; fails unless every one is seen
+  --record DIR   writes the fixed list, a file for each step, to a folder that is there
   --speed        times both sides, as Markdown; --colours N only those cases (4, 12, 30)";
 
 struct Options {
@@ -43,6 +46,7 @@ struct Options {
     mutant: Option<String>,
     mutants: bool,
     list: bool,
+    record: Option<PathBuf>,
     speed: bool,
     colours: Option<u32>,
 }
@@ -50,8 +54,16 @@ struct Options {
 fn options() -> Result<Options, String> {
     let plan =
         Plan { seed: 1, inputs: 1_000, meddle: None, first_only: false, small: true, random: true, faults: true };
-    let mut options =
-        Options { plan, steps: Vec::new(), mutant: None, mutants: false, list: false, speed: false, colours: None };
+    let mut options = Options {
+        plan,
+        steps: Vec::new(),
+        mutant: None,
+        mutants: false,
+        list: false,
+        record: None,
+        speed: false,
+        colours: None,
+    };
     let mut words = std::env::args().skip(1);
     while let Some(word) = words.next() {
         let mut value = || words.next().ok_or(format!("{word} wants a value"));
@@ -66,6 +78,7 @@ fn options() -> Result<Options, String> {
             "--mutant" => options.mutant = Some(value()?),
             "--mutants" => options.mutants = true,
             "--list" => options.list = true,
+            "--record" => options.record = Some(value()?.into()),
             "--speed" => options.speed = true,
             "--colours" => options.colours = Some(number(value()?)? as u32),
             _ => return Err(USE.into()),
@@ -92,6 +105,10 @@ fn main() -> ExitCode {
     println!("{}; text {}", if cfg!(feature = "port") { "the port" } else { MODEL }, oracle::TEXT_SUM);
     if options.speed {
         speed::report(options.plan.seed, options.colours);
+        return ExitCode::SUCCESS;
+    }
+    if let Some(folder) = &options.record {
+        record_all(&steps, options.plan.seed, folder);
         return ExitCode::SUCCESS;
     }
     // a panic of either side is reported as a difference, or its place would be lost in the noise of the shrinking
@@ -121,6 +138,19 @@ fn list(steps: &[Named]) -> bool {
     #[cfg(not(feature = "port"))]
     println!("of the model: {}", model::Slip::ALL.map(|slip| format!("model:{slip:?}")).join(" "));
     true
+}
+
+// ---- the fixed list
+
+fn record_all(steps: &[Named], seed: u64, folder: &Path) {
+    for step in steps {
+        let lines = (step.records)(seed);
+        if !lines.is_empty() {
+            let text = lines.iter().map(|line| format!("{line}\n")).collect::<String>();
+            std::fs::write(folder.join(step.name), &text).expect("a folder that can be written");
+            println!("{}: {} records, {} bytes", step.name, lines.len(), text.len());
+        }
+    }
 }
 
 // ---- the comparison

@@ -5,6 +5,7 @@ use crate::calls::*;
 use crate::inputs::{self, Cut, TileList};
 use crate::outcome::{Lent, Outcome, Plane, Value};
 use crate::random::Random;
+use crate::record::Parts;
 use crate::{refusals, side};
 use oracle::steps;
 
@@ -160,6 +161,11 @@ impl Input for ExtractInput {
             intact: sample.untouched() && store.guarded(),
         }
     }
+
+    fn arguments(&self) -> Option<Parts> {
+        let parts = Parts::new().slice(&self.sample).pair(self.rows, self.cols).number(self.count);
+        Some(parts.number(self.rotations).number(self.reflections).slice(&self.store))
+    }
 }
 
 #[derive(Clone, Copy, Debug, PartialEq)]
@@ -247,5 +253,10 @@ impl Input for TileInput {
                 .map(|set| vec![Value::Whole(i64::from(set.bits)), Value::Whole(i64::from(set.size))]),
         };
         Outcome::new(answer, Vec::new())
+    }
+
+    fn arguments(&self) -> Option<Parts> {
+        let parts = Parts::new().slice(&self.tile);
+        Some(if self.step == Step::Membership { parts.number(self.count) } else { parts })
     }
 }

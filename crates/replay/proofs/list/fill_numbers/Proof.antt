@@ -1,0 +1,61 @@
+-- `replay::list::fill_numbers` is safe and ends: it fills the cells one by one.
+-- Assumes nothing.
+use Prim.Native.Nat.{_-_, _≤_}
+use mathlib.Core.Path.{_≡_}
+use lib.ListN.{length}
+use borrow.Author.Needs.{needs}
+use Rattle.replay.proofs.list.fill_numbers.Statement.{statement}
+use Rattle.replay.proofs.list.fill_numbers.Tie as tie
+
+abbrev Inv-loop : tie.InvT-loop
+Inv-loop words marks part room₀ i₀ room i = (i ≤ length room₀) × (length room ≡ length room₀)
+
+abbrev μ-loop : tie.MeasureT-loop
+μ-loop words marks part room₀ i₀ room i = length room₀ - i
+
+loop-holds : tie.Need-loop-holds Inv-loop μ-loop
+loop-holds c = search needs
+
+entry-requires : tie.Need-entry-requires Inv-loop μ-loop
+entry-requires c κs = search needs
+
+signed-of-requires : tie.Need-signed-of-requires Inv-loop μ-loop
+signed-of-requires c κs = search needs
+
+mul-t6 : tie.Need-mul-t6 Inv-loop μ-loop
+mul-t6 c = search needs
+
+slice-set-from-room : tie.Need-slice-set-from-room Inv-loop μ-loop
+slice-set-from-room c = search needs
+
+add-i : tie.Need-add-i Inv-loop μ-loop
+add-i c = search needs
+
+loop-less : tie.Need-loop-less Inv-loop μ-loop
+loop-less c = search needs
+
+loop-again : tie.Need-loop-again Inv-loop μ-loop
+loop-again c = search needs
+
+same-length : tie.Need-same-length Inv-loop μ-loop
+same-length c = search needs
+
+returns : tie.Need-returns Inv-loop μ-loop
+returns c = search needs
+
+pub fill-numbers-spec : {M : Type 1} → statement M
+fill-numbers-spec =
+    tie.close
+    (tie.spec
+    Inv-loop
+    μ-loop
+    loop-holds
+    entry-requires
+    signed-of-requires
+    mul-t6
+    slice-set-from-room
+    add-i
+    loop-less
+    loop-again
+    same-length
+    returns)

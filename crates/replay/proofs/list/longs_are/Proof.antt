@@ -1,0 +1,68 @@
+-- `replay::list::longs_are` is safe and ends: it looks at the cells one by one.
+-- Assumes nothing.
+use Prim.Native.Nat.{_-_, _≤_}
+use lib.ListN.{length}
+use borrow.Author.Needs.{needs}
+use Rattle.replay.proofs.list.longs_are.Statement.{statement}
+use Rattle.replay.proofs.list.longs_are.Tie as tie
+
+abbrev Inv-loop : tie.InvT-loop
+Inv-loop words marks part cells i₀ i = i ≤ length cells
+
+abbrev μ-loop : tie.MeasureT-loop
+μ-loop words marks part cells i₀ i = length cells - i
+
+length-requires : tie.Need-length-requires Inv-loop μ-loop
+length-requires c κs = search needs
+
+returns : tie.Need-returns Inv-loop μ-loop
+returns c = search needs
+
+loop-holds : tie.Need-loop-holds Inv-loop μ-loop
+loop-holds c = search needs
+
+mul-long-is : tie.Need-mul-long-is Inv-loop μ-loop
+mul-long-is c = search needs
+
+shared-slice-read-long-is : tie.Need-shared-slice-read-long-is Inv-loop μ-loop
+shared-slice-read-long-is c = search needs
+
+expected-requires : tie.Need-expected-requires Inv-loop μ-loop
+expected-requires c κs = search needs
+
+long-is-requires : tie.Need-long-is-requires Inv-loop μ-loop
+long-is-requires c κs = search needs
+
+returns-2 : tie.Need-returns-2 Inv-loop μ-loop
+returns-2 c = search needs
+
+add-i : tie.Need-add-i Inv-loop μ-loop
+add-i c = search needs
+
+loop-less : tie.Need-loop-less Inv-loop μ-loop
+loop-less c = search needs
+
+loop-again : tie.Need-loop-again Inv-loop μ-loop
+loop-again c = search needs
+
+returns-3 : tie.Need-returns-3 Inv-loop μ-loop
+returns-3 c = search needs
+
+pub longs-are-spec : {M : Type 1} → statement M
+longs-are-spec =
+    tie.close
+    (tie.spec
+    Inv-loop
+    μ-loop
+    length-requires
+    returns
+    loop-holds
+    mul-long-is
+    shared-slice-read-long-is
+    expected-requires
+    long-is-requires
+    returns-2
+    add-i
+    loop-less
+    loop-again
+    returns-3)

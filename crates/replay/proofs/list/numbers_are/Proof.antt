@@ -1,0 +1,68 @@
+-- `replay::list::numbers_are` is safe and ends: it looks at the cells one by one.
+-- Assumes nothing.
+use Prim.Native.Nat.{_-_, _≤_}
+use lib.ListN.{length}
+use borrow.Author.Needs.{needs}
+use Rattle.replay.proofs.list.numbers_are.Statement.{statement}
+use Rattle.replay.proofs.list.numbers_are.Tie as tie
+
+abbrev Inv-loop : tie.InvT-loop
+Inv-loop words marks part cells i₀ i = i ≤ length cells
+
+abbrev μ-loop : tie.MeasureT-loop
+μ-loop words marks part cells i₀ i = length cells - i
+
+length-requires : tie.Need-length-requires Inv-loop μ-loop
+length-requires c κs = search needs
+
+returns : tie.Need-returns Inv-loop μ-loop
+returns c = search needs
+
+loop-holds : tie.Need-loop-holds Inv-loop μ-loop
+loop-holds c = search needs
+
+mul-number-is : tie.Need-mul-number-is Inv-loop μ-loop
+mul-number-is c = search needs
+
+shared-slice-copy-out-number-is : tie.Need-shared-slice-copy-out-number-is Inv-loop μ-loop
+shared-slice-copy-out-number-is c = search needs
+
+expected-requires : tie.Need-expected-requires Inv-loop μ-loop
+expected-requires c κs = search needs
+
+number-is-requires : tie.Need-number-is-requires Inv-loop μ-loop
+number-is-requires c κs = search needs
+
+returns-2 : tie.Need-returns-2 Inv-loop μ-loop
+returns-2 c = search needs
+
+add-i : tie.Need-add-i Inv-loop μ-loop
+add-i c = search needs
+
+loop-less : tie.Need-loop-less Inv-loop μ-loop
+loop-less c = search needs
+
+loop-again : tie.Need-loop-again Inv-loop μ-loop
+loop-again c = search needs
+
+returns-3 : tie.Need-returns-3 Inv-loop μ-loop
+returns-3 c = search needs
+
+pub numbers-are-spec : {M : Type 1} → statement M
+numbers-are-spec =
+    tie.close
+    (tie.spec
+    Inv-loop
+    μ-loop
+    length-requires
+    returns
+    loop-holds
+    mul-number-is
+    shared-slice-copy-out-number-is
+    expected-requires
+    number-is-requires
+    returns-2
+    add-i
+    loop-less
+    loop-again
+    returns-3)

@@ -1,0 +1,395 @@
+// A record's parts as numbers, and the comparison of slices with them. A line's numbers stand in `words`; `marks` has, for each part, the
+// index of its first number, and last that past the end. What is not there reads as 0, so that nothing is demanded of a file.
+
+// The room for a slice of a record.
+pub const ROOM: usize = 192;
+
+// The room for the numbers and the parts of a line.
+pub const WORDS: usize = 1024;
+
+pub const MARKS: usize = 64;
+
+// What stands in a slice lent for an answer before the call, and stays where it stores nothing.
+pub const UNTOUCHED: u64 = 77;
+
+// How far the reading of a line has come: numbers stored, parts ended, and the digits of a number so far.
+struct State {
+    words: usize,
+    marks: usize,
+    value: u64,
+    inside: bool,
+}
+
+fn next(n: usize) -> usize {
+    if n < WORDS { n + 1 } else { n }
+}
+
+// The number with one digit more. Of 64 bits there is one number of twenty digits from 1844674407370955161 on for each last digit up to 5.
+fn grown(value: u64, digit: u64) -> u64 {
+    if value < 1844674407370955161 {
+        value * 10 + digit % 10
+    } else {
+        18446744073709551610 + digit % 6
+    }
+}
+
+fn store(list: &mut [u64], at: usize, value: u64) {
+    if at < list.len() {
+        list[at] = value;
+    }
+}
+
+fn wide(byte: u8) -> u64 {
+    byte as u64
+}
+
+fn is_digit(byte: u8) -> bool {
+    if byte < b'0' { false } else { byte <= b'9' }
+}
+
+fn is_mark(byte: u8) -> bool {
+    match byte {
+        b'|' | b'=' | b'\n' => true,
+        _ => false,
+    }
+}
+
+// A digit goes on with a number, another byte ends it.
+fn number_read(state: State, byte: u8, words: &mut [u64]) -> State {
+    let mut after = state;
+    if is_digit(byte) {
+        after.value = grown(state.value, wide(byte) % 48);
+        after.inside = true;
+        return after;
+    }
+    if state.inside {
+        store(words, state.words, state.value);
+        after.words = next(state.words);
+    }
+    after.value = 0;
+    after.inside = false;
+    after
+}
+
+// A mark ends a part.
+fn byte_read(state: State, byte: u8, words: &mut [u64], marks: &mut [u64]) -> State {
+    let mut after = number_read(state, byte, words);
+    if is_mark(byte) {
+        let marked = next(after.marks);
+        let past = after.words;
+        store(marks, marked, past as u64);
+        after.marks = marked;
+    }
+    after
+}
+
+// A line's numbers and marks.
+pub fn split(line: &[u8], words: &mut [u64], marks: &mut [u64]) {
+    let mut state = State {
+        words: 0,
+        marks: 0,
+        value: 0,
+        inside: false,
+    };
+    let mut i = 0;
+    while i < line.len() {
+        state = byte_read(state, line[i], words, marks);
+        i += 1;
+    }
+    byte_read(state, b'\n', words, marks);
+}
+
+fn get(list: &[u64], at: usize) -> u64 {
+    if at < list.len() { list[at] } else { 0 }
+}
+
+fn first(marks: &[u64], part: usize) -> usize {
+    get(marks, part) as usize
+}
+
+fn past(marks: &[u64], part: usize) -> usize {
+    if part < marks.len() {
+        first(marks, part + 1)
+    } else {
+        0
+    }
+}
+
+// How many numbers a part has.
+fn length(marks: &[u64], part: usize) -> usize {
+    let from = first(marks, part);
+    let to = past(marks, part);
+    if from < to { to - from } else { 0 }
+}
+
+// The number at an index of a part.
+fn entry(words: &[u64], marks: &[u64], part: usize, i: usize) -> u64 {
+    let from = first(marks, part);
+    if from < words.len() {
+        get(&words[from..], i)
+    } else {
+        0
+    }
+}
+
+pub fn number(words: &[u64], marks: &[u64], part: usize) -> u64 {
+    entry(words, marks, part, 0)
+}
+
+pub fn size(words: &[u64], marks: &[u64], part: usize) -> usize {
+    number(words, marks, part) as usize
+}
+
+fn word_of(value: u64) -> u32 {
+    (value % 0x1_0000_0000) as u32
+}
+
+pub fn word(words: &[u64], marks: &[u64], part: usize) -> u32 {
+    word_of(number(words, marks, part))
+}
+
+fn byte_of(value: u64) -> u8 {
+    (value % 256) as u8
+}
+
+pub fn flag(words: &[u64], marks: &[u64], part: usize) -> bool {
+    number(words, marks, part) == 1
+}
+
+fn signed_of(value: u64) -> i32 {
+    let bits = value % 0x1_0000_0000;
+    if bits < 0x8000_0000 {
+        bits as i32
+    } else {
+        -1 - (0xffff_ffff - bits) as i32
+    }
+}
+
+pub fn signed(words: &[u64], marks: &[u64], part: usize) -> i32 {
+    signed_of(number(words, marks, part))
+}
+
+// A float of its bits. All NaNs are one: which bits a NaN has is not said of any answer.
+fn float_of(bits: u64) -> f64 {
+    if bits % 0x8000_0000_0000_0000 / 0x10_0000_0000_0000 != 2047 {
+        return f64::from_bits(bits);
+    }
+    if bits % 0x10_0000_0000_0000 == 0 {
+        return f64::from_bits(bits);
+    }
+    0.0 / 0.0
+}
+
+fn float_is(x: f64, bits: u64) -> bool {
+    if x != x {
+        let expected = float_of(bits);
+        return expected != expected;
+    }
+    f64::to_bits(x) == bits
+}
+
+fn fill_words(words: &[u64], marks: &[u64], part: usize, room: &mut [u32]) {
+    let mut i = 0;
+    while i < room.len() {
+        room[i] = word_of(entry(words, marks, part, i));
+        i += 1;
+    }
+}
+
+fn cut_words<'a>(room: &'a mut [u32], n: usize) -> &'a mut [u32] {
+    if n < room.len() {
+        return &mut room[..n];
+    }
+    room
+}
+
+// A part of a record in the room given, which is cut where the part ends.
+pub fn words_in<'a>(
+    words: &[u64],
+    marks: &[u64],
+    part: usize,
+    room: &'a mut [u32],
+) -> &'a mut [u32] {
+    let cells = cut_words(room, length(marks, part));
+    fill_words(words, marks, part, cells);
+    cells
+}
+
+fn fill_bytes(words: &[u64], marks: &[u64], part: usize, room: &mut [u8]) {
+    let mut i = 0;
+    while i < room.len() {
+        room[i] = byte_of(entry(words, marks, part, i));
+        i += 1;
+    }
+}
+
+fn cut_bytes<'a>(room: &'a mut [u8], n: usize) -> &'a mut [u8] {
+    if n < room.len() {
+        return &mut room[..n];
+    }
+    room
+}
+
+pub fn bytes_in<'a>(words: &[u64], marks: &[u64], part: usize, room: &'a mut [u8]) -> &'a mut [u8] {
+    let cells = cut_bytes(room, length(marks, part));
+    fill_bytes(words, marks, part, cells);
+    cells
+}
+
+fn fill_numbers(words: &[u64], marks: &[u64], part: usize, room: &mut [i32]) {
+    let mut i = 0;
+    while i < room.len() {
+        room[i] = signed_of(entry(words, marks, part, i));
+        i += 1;
+    }
+}
+
+fn cut_numbers<'a>(room: &'a mut [i32], n: usize) -> &'a mut [i32] {
+    if n < room.len() {
+        return &mut room[..n];
+    }
+    room
+}
+
+pub fn numbers_in<'a>(
+    words: &[u64],
+    marks: &[u64],
+    part: usize,
+    room: &'a mut [i32],
+) -> &'a mut [i32] {
+    let cells = cut_numbers(room, length(marks, part));
+    fill_numbers(words, marks, part, cells);
+    cells
+}
+
+fn fill_floats(words: &[u64], marks: &[u64], part: usize, room: &mut [f64]) {
+    let mut i = 0;
+    while i < room.len() {
+        room[i] = float_of(entry(words, marks, part, i));
+        i += 1;
+    }
+}
+
+fn cut_floats<'a>(room: &'a mut [f64], n: usize) -> &'a mut [f64] {
+    if n < room.len() {
+        return &mut room[..n];
+    }
+    room
+}
+
+pub fn floats_in<'a>(
+    words: &[u64],
+    marks: &[u64],
+    part: usize,
+    room: &'a mut [f64],
+) -> &'a mut [f64] {
+    let cells = cut_floats(room, length(marks, part));
+    fill_floats(words, marks, part, cells);
+    cells
+}
+
+// What a slice must hold at an index after the call: the part's number, or past its end what stood there before.
+fn expected(words: &[u64], marks: &[u64], part: usize, i: usize) -> u64 {
+    if i < length(marks, part) {
+        entry(words, marks, part, i)
+    } else {
+        UNTOUCHED
+    }
+}
+
+// A float for a slice that is lent for an answer.
+pub fn untouched() -> f64 {
+    float_of(UNTOUCHED)
+}
+
+// Whether the call answered this number.
+pub fn told(words: &[u64], marks: &[u64], part: usize, number: u32) -> bool {
+    word(words, marks, part) == number
+}
+
+fn word_is(cell: u32, value: u64) -> bool {
+    word_of(value) == cell
+}
+
+fn byte_is(cell: u8, value: u64) -> bool {
+    byte_of(value) == cell
+}
+
+fn long_is(cell: u64, value: u64) -> bool {
+    value == cell
+}
+
+fn number_is(cell: i32, value: u64) -> bool {
+    signed_of(value) == cell
+}
+
+// Whether a slice is as recorded.
+pub fn words_are(words: &[u64], marks: &[u64], part: usize, cells: &[u32]) -> bool {
+    if cells.len() < length(marks, part) {
+        return false;
+    }
+    let mut i = 0;
+    while i < cells.len() {
+        if !word_is(cells[i], expected(words, marks, part, i)) {
+            return false;
+        }
+        i += 1;
+    }
+    true
+}
+
+pub fn bytes_are(words: &[u64], marks: &[u64], part: usize, cells: &[u8]) -> bool {
+    if cells.len() < length(marks, part) {
+        return false;
+    }
+    let mut i = 0;
+    while i < cells.len() {
+        if !byte_is(cells[i], expected(words, marks, part, i)) {
+            return false;
+        }
+        i += 1;
+    }
+    true
+}
+
+pub fn longs_are(words: &[u64], marks: &[u64], part: usize, cells: &[u64]) -> bool {
+    if cells.len() < length(marks, part) {
+        return false;
+    }
+    let mut i = 0;
+    while i < cells.len() {
+        if !long_is(cells[i], expected(words, marks, part, i)) {
+            return false;
+        }
+        i += 1;
+    }
+    true
+}
+
+pub fn numbers_are(words: &[u64], marks: &[u64], part: usize, cells: &[i32]) -> bool {
+    if cells.len() < length(marks, part) {
+        return false;
+    }
+    let mut i = 0;
+    while i < cells.len() {
+        if !number_is(cells[i], expected(words, marks, part, i)) {
+            return false;
+        }
+        i += 1;
+    }
+    true
+}
+
+pub fn floats_are(words: &[u64], marks: &[u64], part: usize, cells: &[f64]) -> bool {
+    if cells.len() < length(marks, part) {
+        return false;
+    }
+    let mut i = 0;
+    while i < cells.len() {
+        if !float_is(cells[i], expected(words, marks, part, i)) {
+            return false;
+        }
+        i += 1;
+    }
+    true
+}
