@@ -28,7 +28,8 @@ use Rattle.words.proofs.Forming.{Starts, layBy, liftBy, lays, lifts, step-at, n
 use Rattle.lines.specs.Lines.{numberLine}
 use Rattle.lines.specs.Pages.{Writes}
 use Rattle.lines.proofs.Written.{writes-none, writes-then, writes-as}
-use Rattle.lister.specs.Steps.{placeOf, layNumber, liftNumber, answerTo, boardAfter, answersText, boardIn}
+use Rattle.lister.specs.Steps.{placeOf, answerTo, boardAfter, answersText, boardIn}
+use Rattle.boundary.specs.Boundary.{layNumber, liftNumber}
 use Rattle.lister.specs.Runs.{Walks, stepAt, Stepped, Ran}
 
 -- ---- the number of an answer

@@ -7,10 +7,6 @@ use Rattle.base.specs.Refusal.{refusal}
 use Rattle.rules.specs.Board.{Job, Board, layChecks, afterLay, liftChecks, afterLift}
 use Rattle.rules.specs.declared.World.{World}
 use Rattle.rules.specs.declared.Offset.{Offset}
-use Rattle.rules.specs.declared.LayAnswer.{LayAnswer}
-use Rattle.rules.specs.declared.LayAnswer.the-variants as LayAnswer·
-use Rattle.rules.specs.declared.LiftAnswer.{LiftAnswer}
-use Rattle.rules.specs.declared.LiftAnswer.the-variants as LiftAnswer·
 use Rattle.words.specs.Form.{Step, lay, lift}
 use Rattle.lines.specs.Lines.{numberLine}
 
@@ -20,15 +16,6 @@ origin = record { 0 = pos 0; 1 = pos 0 }
 
 abbrev pub placeOf : ℕ → ℕ → World
 placeOf row col = record { 0 = pos row; 1 = pos col }
-
--- the number of each answer: 0 or the refusal
-abbrev pub layNumber : LayAnswer → ℕ
-layNumber LayAnswer·.Laid = 0
-layNumber (LayAnswer·.Refused n) = n
-
-abbrev pub liftNumber : LiftAnswer → ℕ
-liftNumber LiftAnswer·.Lifted = 0
-liftNumber (LiftAnswer·.Refused n) = n
 
 unfoldable pub answerTo : Job → Board → Step → ℕ
 answerTo j b (lay row col colour) = refusal (layChecks j b (placeOf row col) colour)

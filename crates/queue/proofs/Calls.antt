@@ -5,11 +5,10 @@ use Prim.Native.Nat.{ℕ, zero, suc, _≤_}
 use mathlib.Core.Path.{_≡_, refl, sym, _∙_}
 use mathlib.Core.Bool.{true}
 use mathlib.Core.List.{List}
-use native.Mathlib.Omega.{arith}
 use lib.Dec.{eqb}
 use borrow.Author.Tests.{leb-true}
 use Rattle.base.specs.Refusal.{refusal}
-use Rattle.base.proofs.Chain.{passed, _then_, stopped, then-go, numbered, Fails, more, none, lowest}
+use Rattle.base.proofs.Chain.{passed, _then_, stopped, then-go, numbered}
 use Rattle.rules.specs.Bounds.{queueRoom, addedRoom}
 use Rattle.rules.specs.Forced.{queued, offered, withPositions, queueChecks, addChecks, takenFrom, grownBy, queueEmpty, queueLength}
 use Rattle.rules.specs.declared.ForcedPosition.{ForcedPosition}
@@ -83,11 +82,3 @@ module _ (q : ForcedPipeline) (p : ForcedPositions) where
   pub grown : {n : ℕ} → n ≡ refusal (entryChecks q p) → n ≡ 0 → grownTo q all ≡ grownBy q p
   unfolding grownBy grownTo
   grown e z = rw (in-two, then-go (entryChecks q p) (roomChecks all) numbers (sym e ∙ z))
-
--- the numbers ascend, so where several checks fail the lowest is answered
-pub queue-lowest : (q : ForcedPipeline) {m : ℕ} → Fails m (queueChecks q) → refusal (queueChecks q) ≤ m
-queue-lowest q f = lowest {lo = 1} (queueChecks q) (more (omega arith) (more (omega arith) none)) f .0
-
-pub add-lowest : (q : ForcedPipeline) (p : ForcedPositions) {m : ℕ} → Fails m (addChecks q p) → refusal (addChecks q p) ≤ m
-add-lowest q p f =
-    lowest {lo = 1} (addChecks q p) (more (omega arith) (more (omega arith) (more (omega arith) (more (omega arith) (more (omega arith) none))))) f .0

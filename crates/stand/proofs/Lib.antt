@@ -5,3 +5,4 @@ pub mod Calls
 pub mod Stands
 pub mod Order
 pub mod Never
+pub mod Lowest

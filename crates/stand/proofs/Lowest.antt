@@ -1,0 +1,140 @@
+-- Document 01, "Refusal numbers, lowest first when several hold": in every call's list of checks the numbers ascend, so what is answered
+-- is the lowest number of all checks that fail. One law over a list whose numbers ascend, by computation; then each call's list.
+-- Assumes nothing.
+use Prim.Native.Nat.{ℕ, _≤_}
+use mathlib.Core.Bool.{Bool, true, _&&_}
+use mathlib.Core.Path.{_≡_, refl}
+use mathlib.Core.List.{List}
+use lib.Dec.{leb}
+use lib.Ieee.{Float}
+use borrow.Author.Tests.{leb-true}
+use Rattle.base.specs.Refusal.{Checks, accepted, _unless_or_, refusal}
+use Rattle.base.proofs.Bools.{and-left, and-right}
+use Rattle.base.proofs.Chain.{Ascends, none, more, Fails, lowest}
+use Rattle.rules.specs.Bounds.{COUNT, CELL, PLACE, NUMBER}
+use Rattle.rules.specs.Tests.{colourCount, noneAbove}
+use Rattle.rules.specs.Places.{spanChecks, boxChecks, extensionChecks, copyChecks}
+use Rattle.rules.specs.Sets.{setChecks, setsChecks}
+use Rattle.rules.specs.Tiles.{sampleChecks, roomCheck}
+use Rattle.rules.specs.Fit.{piecesChecks, placeChecks}
+use Rattle.rules.specs.Forced.{boundsFit, queueChecks, addChecks, scanChecks}
+use Rattle.rules.specs.Scores.{fractionChecks, layScoreChecks, liftScoreChecks}
+use Rattle.rules.specs.Probabilities.{Block, normaliseChecks, influenceChecks}
+use Rattle.rules.specs.Board.{Job, Board, freshChecks, layChecks, liftChecks, weightChecks, recountChecks}
+use Rattle.rules.specs.declared.World.{World}
+use Rattle.rules.specs.declared.Offset.{Offset}
+use Rattle.rules.specs.declared.Cell.{Cell}
+use Rattle.rules.specs.declared.Span.{Span}
+use Rattle.rules.specs.declared.Pads.{Pads}
+use Rattle.rules.specs.declared.BoundingBox.{BoundingBox}
+use Rattle.rules.specs.declared.GenerationBounds.{GenerationBounds}
+use Rattle.rules.specs.declared.TileBitset.{TileBitset}
+use Rattle.rules.specs.declared.ForcedPositions.{ForcedPositions}
+use Rattle.rules.specs.declared.ForcedPipeline.{ForcedPipeline}
+
+abbrev ascending : ℕ → Checks → Bool
+ascending lo accepted = true
+ascending lo (n unless b or cs) = leb lo n && ascending n cs
+
+ascends : (lo : ℕ) (cs : Checks) → ascending lo cs ≡ true → Ascends lo cs
+ascends lo accepted e = none
+ascends lo (n unless b or cs) e =
+    more (leb-true lo n (and-left (leb lo n) (ascending n cs) e)) (ascends n cs (and-right (leb lo n) (ascending n cs) e))
+
+-- what is answered is no higher than the number of any check that fails
+abbrev pub Lowest : Checks → Type 0
+Lowest cs = (m : ℕ) → Fails m cs → refusal cs ≤ m
+
+by-order : (cs : Checks) → ascending 1 cs ≡ true → Lowest cs
+by-order cs e m f = lowest {lo = 1} cs (ascends 1 cs e) f .0
+
+-- ---- places
+
+pub spans-lowest : (o : Offset) (w : World) (k : ℕ) → Lowest (spanChecks o w k)
+spans-lowest o w k = by-order _ refl
+
+pub contains-lowest : (b : BoundingBox) (w : World) → Lowest (boxChecks b w)
+contains-lowest b w = by-order _ refl
+
+pub extension-lowest : (rows cols : ℕ) (o : Offset) (w : World) (k : ℕ) → Lowest (extensionChecks rows cols o w k accepted)
+extension-lowest rows cols o w k = by-order _ refl
+
+pub boxed-extension-lowest : (rows cols : ℕ) (o : Offset) (w : World) (k : ℕ) (a b : Bool) → Lowest (extensionChecks rows cols o w k (PLACE unless a or PLACE unless b or accepted))
+boxed-extension-lowest rows cols o w k a b = by-order _ refl
+
+pub copy-lowest : (plane : List ℕ) (rows cols : ℕ) (p : Pads) (target : List ℕ) → Lowest (copyChecks plane rows cols p target accepted)
+copy-lowest plane rows cols p target = by-order _ refl
+
+pub float-copy-lowest : (plane : List Float) (rows cols : ℕ) (p : Pads) (target : List Float) (b : Bool) → Lowest (copyChecks plane rows cols p target (NUMBER unless b or accepted))
+float-copy-lowest plane rows cols p target b = by-order _ refl
+
+-- ---- sets and tiles
+
+pub new-set-lowest : (size : ℕ) → Lowest (COUNT unless colourCount size or accepted)
+new-set-lowest size = by-order _ refl
+
+pub set-lowest : (s : TileBitset) → Lowest (setChecks s)
+set-lowest s = by-order _ refl
+
+pub sets-lowest : (s u : TileBitset) → Lowest (setsChecks s u)
+sets-lowest s u = by-order _ refl
+
+pub membership-lowest : (tile : List ℕ) (count : ℕ) → Lowest (COUNT unless colourCount count or CELL unless noneAbove tile count or accepted)
+membership-lowest tile count = by-order _ refl
+
+pub extraction-lowest : (sample : List ℕ) (rows cols count : ℕ) (tiles store : List ℕ) → Lowest (sampleChecks sample rows cols count (roomCheck tiles store))
+extraction-lowest sample rows cols count tiles store = by-order _ refl
+
+-- ---- fit, forced neighbours, the queue, the scan
+
+pub listing-lowest : (pieces : List ℕ) (rows cols : ℕ) (tiles : List ℕ) (count : ℕ) (w : World) (o : Offset) → Lowest (piecesChecks pieces rows cols tiles count (placeChecks rows cols w o accepted))
+listing-lowest pieces rows cols tiles count w o = by-order _ refl
+
+pub region-lowest : (pieces : List ℕ) (rows cols : ℕ) (tiles : List ℕ) (count : ℕ) (b : Bool) → Lowest (piecesChecks pieces rows cols tiles count (PLACE unless b or accepted))
+region-lowest pieces rows cols tiles count b = by-order _ refl
+
+pub forced-lowest : (pieces : List ℕ) (rows cols : ℕ) (tiles : List ℕ) (count : ℕ) (w : World) (o : Offset) (b : GenerationBounds) → Lowest (piecesChecks pieces rows cols tiles count (placeChecks rows cols w o (PLACE unless boundsFit b or accepted)))
+forced-lowest pieces rows cols tiles count w o b = by-order _ refl
+
+pub queue-lowest : (q : ForcedPipeline) → Lowest (queueChecks q)
+queue-lowest q = by-order _ refl
+
+pub add-lowest : (q : ForcedPipeline) (p : ForcedPositions) → Lowest (addChecks q p)
+add-lowest q p = by-order _ refl
+
+pub scan-lowest : (pieces weights : List ℕ) (rows cols : ℕ) (tiles : List ℕ) (count : ℕ) → Lowest (scanChecks pieces weights rows cols tiles count)
+scan-lowest pieces weights rows cols tiles count = by-order _ refl
+
+-- ---- the board and its steps
+
+pub fresh-lowest : (rows cols tiles : ℕ) (b : Board) → Lowest (freshChecks rows cols tiles b)
+fresh-lowest rows cols tiles b = by-order _ refl
+
+pub lay-lowest : (j : Job) (b : Board) (w : World) (colour : ℕ) → Lowest (layChecks j b w colour)
+lay-lowest j b w colour = by-order _ refl
+
+pub lift-lowest : (j : Job) (b : Board) (w : World) → Lowest (liftChecks j b w)
+lift-lowest j b w = by-order _ refl
+
+pub weight-lowest : (weights : List ℕ) (rows cols : ℕ) (w : World) (o : Offset) → Lowest (weightChecks weights rows cols w o)
+weight-lowest weights rows cols w o = by-order _ refl
+
+pub recount-lowest : (counts pieces : List ℕ) (rows cols : ℕ) (tiles : List ℕ) (count : ℕ) (w : World) (o : Offset) → Lowest (recountChecks counts pieces rows cols tiles count w o)
+recount-lowest counts pieces rows cols tiles count w o = by-order _ refl
+
+-- ---- floats
+
+pub fraction-lowest : (counts : List ℕ) (rows cols tiles : ℕ) (k : Cell) → Lowest (fractionChecks counts rows cols tiles k)
+fraction-lowest counts rows cols tiles k = by-order _ refl
+
+pub lay-score-lowest : (scores : List Float) (counts : List ℕ) (rows cols tiles : ℕ) (w : World) (o : Offset) → Lowest (layScoreChecks scores counts rows cols tiles w o)
+lay-score-lowest scores counts rows cols tiles w o = by-order _ refl
+
+pub lift-score-lowest : (scores : List Float) (counts : List ℕ) (rows cols tiles : ℕ) (down across : Span) → Lowest (liftScoreChecks scores counts rows cols tiles down across)
+lift-score-lowest scores counts rows cols tiles down across = by-order _ refl
+
+pub normalise-lowest : (ps : List Float) (rows cols count : ℕ) (w : World) (o : Offset) (out : List Float) → Lowest (normaliseChecks ps rows cols count w o out)
+normalise-lowest ps rows cols count w o out = by-order _ refl
+
+pub influence-lowest : (ps : List Float) (rows cols count : ℕ) (b : Block) (w : World) (o : Offset) (radius : ℕ) → Lowest (influenceChecks ps rows cols count b w o radius)
+influence-lowest ps rows cols count b w o radius = by-order _ refl
