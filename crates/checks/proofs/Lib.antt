@@ -1,3 +1,4 @@
 pub mod Sides
 pub mod Turn
 pub mod Tiled
+pub mod Coincide

@@ -1,0 +1,44 @@
+-- Two results that meet the contract of a test coincide.
+-- Assumes nothing.
+use Prim.Native.Nat.{ℕ}
+use mathlib.Core.Path.{_≡_}
+use mathlib.Core.Bool.{Bool}
+use mathlib.Core.List.{List}
+use lib.Ieee.{Float}
+use Rattle.base.proofs.Chain.{coincide}
+use Rattle.rules.specs.Tests.{boardSides, sampleSides, hasLength, tileNumber, wholeTiles, colourCount, noneAbove}
+use Rattle.rules.specs.Tiles.{tilesCounted}
+use Rattle.rules.specs.Floats.{isNumber, isFinite, allAre}
+use Rattle.rules.specs.declared.TileNumber.{TileNumber}
+
+pub board-sides : (rows cols : ℕ) {r s : Bool} → r ≡ boardSides rows cols → s ≡ boardSides rows cols → r ≡ s
+board-sides rows cols p q = coincide p q
+
+pub sample-sides : (rows cols : ℕ) {r s : Bool} → r ≡ sampleSides rows cols → s ≡ sampleSides rows cols → r ≡ s
+sample-sides rows cols p q = coincide p q
+
+-- of the three tests of a plane's length, which differ in what the plane holds
+pub have-length : {A : Type 0} (plane : List A) (n : ℕ) {r s : Bool} → r ≡ hasLength plane n → s ≡ hasLength plane n → r ≡ s
+have-length plane n p q = coincide p q
+
+pub tile-number-fits : (n : ℕ) {r s : Bool} → r ≡ tileNumber n → s ≡ tileNumber n → r ≡ s
+tile-number-fits n p q = coincide p q
+
+pub whole-tiles : (tiles : List ℕ) {r s : Bool} → r ≡ wholeTiles tiles → s ≡ wholeTiles tiles → r ≡ s
+whole-tiles tiles p q = coincide p q
+
+pub tile-number : (tiles : List ℕ) {r s : TileNumber} → r ≡ tilesCounted tiles → s ≡ tilesCounted tiles → r ≡ s
+tile-number tiles p q = coincide p q
+
+pub colour-count : (count : ℕ) {r s : Bool} → r ≡ colourCount count → s ≡ colourCount count → r ≡ s
+colour-count count p q = coincide p q
+
+-- of the tests of bytes and of words
+pub none-above : (plane : List ℕ) (most : ℕ) {r s : Bool} → r ≡ noneAbove plane most → s ≡ noneAbove plane most → r ≡ s
+none-above plane most p q = coincide p q
+
+pub all-numbers : (plane : List Float) {r s : Bool} → r ≡ allAre isNumber plane → s ≡ allAre isNumber plane → r ≡ s
+all-numbers plane p q = coincide p q
+
+pub all-finite : (plane : List Float) {r s : Bool} → r ≡ allAre isFinite plane → s ≡ allAre isFinite plane → r ≡ s
+all-finite plane p q = coincide p q
