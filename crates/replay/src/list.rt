@@ -302,17 +302,12 @@ pub fn untouched() -> f64 {
     float_of(UNTOUCHED)
 }
 
-// Whether the call answered this number.
-pub fn told(words: &[u64], marks: &[u64], part: usize, number: u32) -> bool {
-    word(words, marks, part) == number
-}
-
 fn word_is(cell: u32, value: u64) -> bool {
-    word_of(value) == cell
+    value == cell as u64
 }
 
 fn byte_is(cell: u8, value: u64) -> bool {
-    byte_of(value) == cell
+    value == cell as u64
 }
 
 fn long_is(cell: u64, value: u64) -> bool {
@@ -320,7 +315,15 @@ fn long_is(cell: u64, value: u64) -> bool {
 }
 
 fn number_is(cell: i32, value: u64) -> bool {
+    if 0xffff_ffff < value {
+        return false;
+    }
     signed_of(value) == cell
+}
+
+// Whether the call answered the number recorded.
+pub fn told(words: &[u64], marks: &[u64], part: usize, answer: u32) -> bool {
+    word_is(answer, number(words, marks, part))
 }
 
 // Whether a slice is as recorded.

@@ -8,9 +8,6 @@ use borrow.Author.Needs.{needs}
 use Rattle.base.proofs.Bools.{never}
 use Rattle.replay.proofs.list.float_is.Statement.{statement}
 use Rattle.replay.proofs.list.float_is.Tie as tie
-use Rattle.replay.proofs.list.float_is.Reads as reads
-use Rattle.replay.proofs.list.float_is.Lts as lts
-use Rattle.replay.proofs.list.float_of.Reads as float-of-reads
 
 float-of-requires : tie.Need-float-of-requires
 float-of-requires c κs = search needs

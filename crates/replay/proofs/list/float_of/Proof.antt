@@ -9,8 +9,6 @@ use borrow.Author.Tests.{eq-eqb, ne-eqb}
 use borrow.Author.Needs.{needs}
 use Rattle.replay.proofs.list.float_of.Statement.{statement}
 use Rattle.replay.proofs.list.float_of.Tie as tie
-use Rattle.replay.proofs.list.float_of.Reads as reads
-use Rattle.replay.proofs.list.float_of.Lts as lts
 
 no-first : (a b : Bool) → a ≡ false → T (not (a && b))
 no-first a b p = rw p tt

@@ -5,13 +5,10 @@ use native.Mathlib.Omega.{arith}
 use lib.IntN.{pos, negsuc, _-ℤ_}
 use lib.Signed.{mag}
 use mir.Syntax.{w32}
-use mir.Val.{SFits}
 use mir.Facts.{toZ-pos}
 use borrow.Author.Needs.{needs}
 use Rattle.replay.proofs.list.signed_of.Statement.{statement}
 use Rattle.replay.proofs.list.signed_of.Tie as tie
-use Rattle.replay.proofs.list.signed_of.Reads as reads
-use Rattle.replay.proofs.list.signed_of.Lts as lts
 
 cast-result : tie.Need-cast-result
 cast-result c = search needs

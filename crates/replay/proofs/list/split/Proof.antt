@@ -1,14 +1,11 @@
 -- `replay::list::split` is safe and ends: it takes the line's bytes one by one, and both lists keep their lengths.
 -- Assumes nothing.
 use Prim.Native.Nat.{_-_, _≤_}
-use mathlib.Core.Path.{_≡_, sym, _∙_}
+use mathlib.Core.Path.{_≡_}
 use lib.ListN.{length}
 use borrow.Author.Needs.{needs}
 use Rattle.replay.proofs.list.split.Statement.{statement}
 use Rattle.replay.proofs.list.split.Tie as tie
-use Rattle.replay.proofs.list.split.Reads as reads
-use Rattle.replay.proofs.list.split.Lts as lts
-use Rattle.replay.proofs.list.byte_read.Reads as byte-read-reads
 
 abbrev Inv-loop : tie.InvT-loop
 Inv-loop line words₀ marks₀ state₀ i₀ words marks state i = (i ≤ length line) × ((length words ≡ length words₀) × (length marks ≡ length marks₀))
