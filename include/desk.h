@@ -38,7 +38,8 @@ enum desk_refusal {
     DESK_BARE = 9    /* lift where none stands */
 };
 
-/* The colours that fit at a place: those that have, in every window round the cell, a tile that agrees with the pieces laid.
+/* The colours that fit at a place: those for which every 3x3 window round the cell, but those that would start above or left of the board,
+ * has a tile that agrees with the pieces laid there and has that colour at the cell.
  * Reads all of pieces and tiles. found is written: its first word gets the set, bit t-1 for colour t (found[0] == 0: no colour fits).
  * Lend one word; further words are left alone today and are kept for what a listing may tell later. With found_len 0 nothing is stored.
  * Refusals: SHAPE, LENGTH, COUNT, CELL, PLACE. */
@@ -47,7 +48,8 @@ uint32_t desk_fitting_colours(const uint32_t *pieces, size_t pieces_len, size_t 
 
 /* Lays a piece of a colour (1 to count) on a bare cell.
  * weights and counts are planes like pieces: weights start at 1, counts at the number of tiles. Reads all planes and tiles. Writes the
- * cell's piece, the weights within distance 2 of it, and the counts of the regions that start within distance 2.
+ * cell's piece, the weights within distance 2 of it, and the counts of the 3x3 regions that start within distance 2 and lie whole on the
+ * board.
  * Refusals: SHAPE, LENGTH, COUNT, CELL, PLACE, TYPE, TAKEN. */
 uint32_t desk_lay(uint32_t *pieces, size_t pieces_len, uint32_t *weights, size_t weights_len, uint32_t *counts, size_t counts_len,
                   size_t rows, size_t cols, const uint8_t *tiles, size_t tiles_len, uint32_t count, int32_t row, int32_t col, int32_t down,
