@@ -1,13 +1,12 @@
 // The functions of the desk program, which is C: fitting colours, lay and lift on numbers, byte tiles and u32 planes. include/desk.h is
 // their C side, for the C programmer; a place goes over as a row and a column on the wall, the offset likewise, each answer is 0 or
 // document 01's refusal number.
-ghost use mathlib.Core.Path.{_≡_};
 ghost use Rattle.base.specs.Refusal.{Gives, refusal};
 ghost use Rattle.rules.specs.Answers.{layAnswer, liftAnswer};
 ghost use Rattle.rules.specs.Fit.{listing};
 ghost use Rattle.rules.specs.Board.{layChecks, afterLay, liftChecks, afterLift};
 ghost use Rattle.board.specs.Calls.{board, job};
-ghost use Rattle.boundary.specs.Boundary.{put, world, offsetBy, layNumber, liftNumber, listingNumber};
+ghost use Rattle.boundary.specs.Boundary.{world, offsetBy, layNumber, liftNumber, listingNumber};
 ghost use Rattle.desk.specs.Found.{coloursLeft};
 use boundary::laid;
 use boundary::lifted;

@@ -1,6 +1,5 @@
 // The calls of the port for tests in another language: each hands its call the numbers and slices that it is given and tells its answer
 // as crate boundary does.
-ghost use mathlib.Core.Path.{_≡_};
 ghost use Rattle.base.specs.Refusal.{Gives, refusal};
 ghost use Rattle.rules.specs.Answers.{writtenAnswer, layAnswer, liftAnswer};
 ghost use Rattle.rules.specs.Fit.{listing, regionCount};

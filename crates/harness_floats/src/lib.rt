@@ -1,6 +1,5 @@
 // The float steps for tests in another language: each hands its call the numbers and slices that it is given and tells its answer as crate
 // boundary does.
-ghost use mathlib.Core.Path.{_≡_};
 ghost use Rattle.rules.specs.Probabilities.{normaliseChecks, normalised, probabilitiesAt, influenceChecks, multiplied, divided};
 ghost use Rattle.rules.specs.Scores.{layScoreChecks, layScores, liftScoreChecks, liftScores};
 ghost use Rattle.influence.specs.Step.{blockOf};

@@ -1,6 +1,5 @@
 // Forced neighbours and the queue for tests in another language: each function hands its call the numbers and slices that it is given
 // and tells its answer as crate boundary does. Positions cross as specs/Slices.antt has them.
-ghost use mathlib.Core.Path.{_≡_};
 ghost use Rattle.base.specs.Refusal.{Gives};
 ghost use Rattle.rules.specs.Forced.{forcedNeighbours, grownBy, takenFrom, queueEmpty, queueLength};
 ghost use Rattle.boundary.specs.Boundary.{world, offsetBy, verdictNumber, verdictLeft, countNumber, countLeft, writtenNumber};

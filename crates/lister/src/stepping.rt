@@ -1,14 +1,12 @@
 // A job's steps on its board, each with its answer on a line.
 ghost use mathlib.Core.Path.{_≡_};
-ghost use Prim.Native.Nat.{ℕ, _+_, _<_, _≤_};
-ghost use lib.ListN.{length, getD, drop};
+ghost use Prim.Native.Nat.{_+_, _<_, _≤_};
+ghost use lib.ListN.{length, drop};
 ghost use Rattle.base.specs.Refusal.{Gives};
 ghost use Rattle.board.specs.Calls.{board};
 ghost use Rattle.words.specs.Form.{stepsIn, listOf};
 ghost use Rattle.words.specs.Input.{maxNumber};
-ghost use Rattle.lines.specs.Lines.{numberLine};
-ghost use Rattle.lines.specs.Pages.{Writes};
-ghost use Rattle.lister.specs.Steps.{placeOf, answerTo, boardAfter, answersText, boardIn};
+ghost use Rattle.lister.specs.Steps.{placeOf, answerTo, boardAfter};
 ghost use Rattle.boundary.specs.Boundary.{layNumber, liftNumber};
 ghost use Rattle.lister.specs.Printed.{jobWith};
 ghost use Rattle.lister.specs.Runs.{Walks, stepAt, Stepped, Ran};

@@ -1,17 +1,13 @@
 // Document 01, "Weights, counts, scores": the recount of the regions near a cell whose piece changed.
 ghost use mathlib.Core.Path.{_≡_};
-ghost use mathlib.Core.Bool.{Bool, _&&_};
 ghost use mathlib.Core.List.{List};
-ghost use Prim.Native.Nat.{ℕ, _+_, _*_, _<_, _≤_, max};
-ghost use lib.Dec.{leb, ltb};
+ghost use Prim.Native.Nat.{ℕ, _+_, _*_, _<_, _≤_};
 ghost use lib.ListN.{length};
-ghost use Rattle.base.specs.Counting.{pick};
-ghost use Rattle.base.specs.Refusal.{Gives, refusal, accepted};
+ghost use Rattle.base.specs.Refusal.{Gives, refusal};
 ghost use Rattle.base.proofs.Swept.{swept};
 ghost use Rattle.rules.specs.Bounds.{maxTiles};
-ghost use Rattle.rules.specs.Grid.{flat, gap};
+ghost use Rattle.rules.specs.Grid.{flat};
 ghost use Rattle.rules.specs.Answers.{writtenAnswer};
-ghost use Rattle.rules.specs.Fit.{pattern, fitCount};
 ghost use Rattle.rules.specs.Board.{recounted, recountChecks, afterRecount};
 ghost use Rattle.fit.specs.Ready.{Countable, OnGrid};
 ghost use Rattle.steps.specs.Near.{recountedAt, OnPlane, InRow, Nearby};

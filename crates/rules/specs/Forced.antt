@@ -11,7 +11,7 @@ use Rattle.base.specs.Refusal.{Checks, accepted, _unless_or_, refusal, unlessRe
 use Rattle.rules.specs.Bounds.{maxWeight, queueRoom, addedRoom, SHAPE, LENGTH, COUNT, CELL, PLACE, ROOM}
 use Rattle.rules.specs.Tests.{boardSides, hasLength, wholeTiles, colourCount, noneAbove, piecesStored, onWall, onBoard}
 use Rattle.rules.specs.Answers.{verdictAnswer, numberAnswer, writtenAnswer, deadEndAnswer, nextAnswer}
-use Rattle.rules.specs.Places.{samePlace, inBox}
+use Rattle.rules.specs.Places.{samePlace, inBox, boxFits}
 use Rattle.rules.specs.Sets.{coloursOf}
 use Rattle.rules.specs.Grid.{Shape, flat, numberOf, laidOn}
 use Rattle.rules.specs.Fit.{lists, piecesChecks, placeChecks}
@@ -43,7 +43,7 @@ admits (Within b) w = inBox b w
 -- the corners of the box, if one is given, are on the wall
 unfoldable pub boundsFit : GenerationBounds → Bool
 boundsFit Unbounded = true
-boundsFit (Within b) = onWall (b .min) && onWall (b .max)
+boundsFit (Within b) = boxFits b
 
 -- the colours listed at cell k
 abbrev pub listedAt : Shape → List ℕ → List ℕ → ℕ → ℕ → List ℕ

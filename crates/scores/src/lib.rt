@@ -3,8 +3,7 @@
 ghost use mathlib.Core.Path.{_≡_};
 ghost use mathlib.Core.Bool.{true};
 ghost use Prim.Native.Nat.{_+_, _-_, _*_, _<_, _≤_};
-ghost use lib.ListN.{length, getD};
-ghost use lib.Ieee.{Float, nan};
+ghost use lib.ListN.{length};
 ghost use Rattle.base.specs.Tables.{tab, fold};
 ghost use Rattle.base.specs.Refusal.{accepted, refusal};
 ghost use Rattle.rules.specs.Bounds.{maxBoardSide};

@@ -1,5 +1,5 @@
--- What the loops over the span of radius 2 round a cell write, cell by cell, and what they lean on. These definitions serve the proofs
--- alone: the calls are stated by those of document 01.
+-- What the loops over the span of radius 2 round a cell write, cell by cell, what they lean on, and the spans that `near_spans` gives. The
+-- calls themselves are stated by document 01's definitions.
 use Prim.Native.Nat.{ℕ, _+_, _-_, _*_, _/_, _%_, _<_, _≤_, min, max}
 use mathlib.Core.Path.{_≡_}
 use mathlib.Core.Bool.{Bool, _&&_}

@@ -1,17 +1,15 @@
-// Document 01, "Weights, counts, scores": the weights that a piece adds and takes back, and the recount of the regions near it. The
-// loops run over the span of radius 2 round the piece and leave every other cell alone.
+// Document 01, "Weights, counts, scores": the weights that a piece adds and takes back. The loops run over the span of radius 2 round the
+// piece and leave every other cell alone.
 ghost use mathlib.Core.Path.{_≡_};
-ghost use Prim.Native.Nat.{ℕ, _+_, _-_, _*_, _≤_, _<_, max, min};
-ghost use mathlib.Core.Bool.{Bool, true};
+ghost use Prim.Native.Nat.{ℕ, _+_, _-_, _*_, _<_, max};
 ghost use mathlib.Core.List.{List};
-ghost use lib.ListN.{length, getD};
-ghost use Rattle.base.specs.Tables.{tab};
-ghost use Rattle.base.specs.Refusal.{Gives, refusal, accepted, unlessRefused};
+ghost use lib.ListN.{length};
+ghost use Rattle.base.specs.Refusal.{Gives, refusal};
 ghost use Rattle.base.proofs.Swept.{swept};
-ghost use Rattle.rules.specs.Grid.{gap, flat, numberOf};
+ghost use Rattle.rules.specs.Grid.{gap, flat};
 ghost use Rattle.rules.specs.Answers.{writtenAnswer};
-ghost use Rattle.rules.specs.Board.{share, raised, lowered, recounted, weightChecks, recountChecks, afterRaise, afterLower, afterRecount};
-ghost use Rattle.steps.specs.Near.{shareAt, raisedAt, loweredAt, recountedAt, OnPlane, InRow, Nearby, lightFrom, endClipped, nearSpans, weightsChecks};
+ghost use Rattle.rules.specs.Board.{share, raised, lowered, weightChecks, afterRaise, afterLower};
+ghost use Rattle.steps.specs.Near.{raisedAt, loweredAt, OnPlane, InRow, Nearby, lightFrom, endClipped, nearSpans, weightsChecks};
 use checks::board_sides;
 use checks::cells_of;
 use checks::no_word_above;
