@@ -4,17 +4,11 @@ use Prim.Native.Nat.{ℕ}
 use mathlib.Core.Path.{_≡_}
 use Rattle.base.specs.Refusal.{refusal, Gives}
 use Rattle.base.proofs.Chain.{gives-coincide}
-use Rattle.rules.specs.Answers.{writtenAnswer, layAnswer, liftAnswer}
-use Rattle.rules.specs.Board.{Job, Board, freshChecks, afterFresh, layChecks, afterLay, liftChecks, afterLift}
+use Rattle.rules.specs.Answers.{layAnswer, liftAnswer}
+use Rattle.rules.specs.Board.{Job, Board, layChecks, afterLay, liftChecks, afterLift}
 use Rattle.rules.specs.declared.World.{World}
-use Rattle.rules.specs.declared.Written.{Written}
 use Rattle.rules.specs.declared.LayAnswer.{LayAnswer}
 use Rattle.rules.specs.declared.LiftAnswer.{LiftAnswer}
-
-pub fresh-coincide : (rows cols tiles : ℕ) (old : Board) {a c : Written} {l m : Board}
-    → Gives (writtenAnswer (refusal (freshChecks rows cols tiles old))) (afterFresh rows cols tiles old) a l
-    → Gives (writtenAnswer (refusal (freshChecks rows cols tiles old))) (afterFresh rows cols tiles old) c m → (a ≡ c) × (l ≡ m)
-fresh-coincide rows cols tiles old p q = gives-coincide p q
 
 pub lay-coincide : (j : Job) (old : Board) (w : World) (colour : ℕ) {a c : LayAnswer} {l m : Board}
     → Gives (layAnswer (refusal (layChecks j old w colour))) (afterLay j old w colour) a l

@@ -1,14 +1,9 @@
 -- Each answer at the boundary: its number (0 where the call is accepted, else document 01's refusal number) and what the slices lent for
 -- its values hold then. An entry past the end of a slice is not stored; a refused call stores none.
 use Prim.Native.Nat.{ℕ}
-use mathlib.Core.Bool.{Bool, true, false}
 use mathlib.Core.List.{List}
-use lib.ListN.{set}
-use lib.IntN.{ℤ}
 use lib.Ieee.{Float}
-use Rattle.rules.specs.declared.World.{World}
-use Rattle.rules.specs.declared.Offset.{Offset}
-use Rattle.rules.specs.declared.Cell.{Cell}
+use Rattle.slots.specs.Slots.{put, digitOf}
 use Rattle.rules.specs.declared.TileBitset.{TileBitset}
 use Rattle.rules.specs.declared.Listing.{Listing}
 use Rattle.rules.specs.declared.Listing.the-variants as Listing·
@@ -32,26 +27,6 @@ use Rattle.rules.specs.declared.LayAnswer.{LayAnswer}
 use Rattle.rules.specs.declared.LayAnswer.the-variants as LayAnswer·
 use Rattle.rules.specs.declared.LiftAnswer.{LiftAnswer}
 use Rattle.rules.specs.declared.LiftAnswer.the-variants as LiftAnswer·
-
--- ---- what goes in
-
-abbrev pub world : ℤ → ℤ → World
-world row col = record { 0 = row; 1 = col }
-
-abbrev pub offsetBy : ℤ → ℤ → Offset
-offsetBy row col = record { 0 = row; 1 = col }
-
-abbrev pub cellAt : ℕ → ℕ → Cell
-cellAt row col = record { 0 = row; 1 = col }
-
-abbrev pub setFrom : ℕ → ℕ → TileBitset
-setFrom bits size = record { bits = bits; size = size }
-
--- ---- what comes back
-
--- a value stored at an entry; nothing where there is no such entry
-unfoldable pub put : {A : Type 0} → List A → ℕ → A → List A
-put l i v = set l i v
 
 abbrev pub writtenNumber : Written → ℕ
 writtenNumber Written·.Done = 0
@@ -103,11 +78,6 @@ setNumber (SetAnswer·.Refused n) = n
 abbrev pub setLeft : SetAnswer → List ℕ → List ℕ
 setLeft (SetAnswer·.Set s) out = setStored s out
 setLeft (SetAnswer·.Refused n) out = out
-
--- a truth: 0 or 1
-abbrev pub digitOf : Bool → ℕ
-digitOf true = 1
-digitOf false = 0
 
 abbrev pub verdictNumber : Verdict → ℕ
 verdictNumber (Verdict·.Is b) = 0

@@ -4,11 +4,9 @@ use Prim.Native.Nat.{ℕ}
 use mathlib.Core.Path.{_≡_}
 use mathlib.Core.Bool.{Bool}
 use mathlib.Core.List.{List}
-use lib.Ieee.{Float}
 use Rattle.base.proofs.Chain.{coincide}
-use Rattle.rules.specs.Tests.{boardSides, sampleSides, hasLength, tileNumber, wholeTiles, colourCount, noneAbove}
+use Rattle.rules.specs.Tests.{boardSides, sampleSides, hasLength, tileNumber, wholeTiles, colourCount}
 use Rattle.rules.specs.Tiles.{tilesCounted}
-use Rattle.rules.specs.Floats.{isNumber, isFinite, allAre}
 use Rattle.rules.specs.declared.TileNumber.{TileNumber}
 
 pub board-sides : (rows cols : ℕ) {r s : Bool} → r ≡ boardSides rows cols → s ≡ boardSides rows cols → r ≡ s
@@ -32,13 +30,3 @@ tile-number tiles p q = coincide p q
 
 pub colour-count : (count : ℕ) {r s : Bool} → r ≡ colourCount count → s ≡ colourCount count → r ≡ s
 colour-count count p q = coincide p q
-
--- of the tests of bytes and of words
-pub none-above : (plane : List ℕ) (most : ℕ) {r s : Bool} → r ≡ noneAbove plane most → s ≡ noneAbove plane most → r ≡ s
-none-above plane most p q = coincide p q
-
-pub all-numbers : (plane : List Float) {r s : Bool} → r ≡ allAre isNumber plane → s ≡ allAre isNumber plane → r ≡ s
-all-numbers plane p q = coincide p q
-
-pub all-finite : (plane : List Float) {r s : Bool} → r ≡ allAre isFinite plane → s ≡ allAre isFinite plane → r ≡ s
-all-finite plane p q = coincide p q

@@ -1,4 +1,3 @@
 pub mod Sides
-pub mod Turn
 pub mod Tiled
 pub mod Coincide

@@ -1,13 +1,10 @@
-// The tests of document 01's refusal table that many calls share. Each answers whether its input is in order and reads the whole
-// of the plane it is lent: no loop leaves early, so that the compiler can take many cells at a time.
+// The tests of document 01's refusal table that many calls share: sides, lengths and counts. Each answers whether its input is in order.
 ghost use mathlib.Core.Path.{_≡_};
-ghost use mathlib.Core.Bool.{Bool, true, _&&_};
-ghost use Prim.Native.Nat.{ℕ, _*_, _+_, _≤_, _<_};
-ghost use lib.Dec.{leb};
+ghost use mathlib.Core.Bool.{true};
+ghost use Prim.Native.Nat.{_*_};
 ghost use Rattle.base.specs.Counting.{within};
-ghost use Rattle.rules.specs.Tests.{boardSides, sampleSides, hasLength, tileNumber, wholeTiles, colourCount, noneAbove, piecesStored};
+ghost use Rattle.rules.specs.Tests.{boardSides, sampleSides, hasLength, tileNumber, wholeTiles, colourCount};
 ghost use Rattle.rules.specs.Tiles.{tilesCounted};
-ghost use Rattle.rules.specs.Floats.{isNumber, isFinite, allAre};
 use rules::TileNumber;
 
 fn within_bounds(least: usize, most: usize, n: usize) -> bool
@@ -96,107 +93,4 @@ pub fn colour_count(count: u32) -> bool
     } else {
         false
     }
-}
-
-// Both: made of one operation without a branch.
-fn and_too(sofar: bool, here: bool) -> bool
-    ensures { λ r. ⌜ r ≡ (sofar && here) ⌝ }
-{
-    sofar & here
-}
-
-// The limit as a byte: no byte is above 255, so a larger one tells nothing more.
-fn byte_limit(most: u32) -> u8
-    ensures { λ r. ⌜ ((cell : ℕ) → cell < 256 → leb cell r ≡ leb cell most) ⌝ }
-{
-    if most < 255 { most as u8 } else { 255 }
-}
-
-// On bytes alone, so that the compiler compares sixteen at once.
-fn byte_up_to(cell: u8, limit: u8) -> bool
-    ensures { λ r. ⌜ r ≡ leb cell limit ⌝ }
-{
-    cell <= limit
-}
-
-pub fn no_byte_above(plane: &[u8], most: u32) -> bool
-    ensures { λ r. ⌜ r ≡ noneAbove (now (plane .entry)) most ⌝ }
-{
-    let limit = byte_limit(most);
-    let mut fine = true;
-    let mut k = 0;
-    while k < plane.len() {
-        fine = and_too(fine, byte_up_to(plane[k], limit));
-        k += 1;
-    }
-    fine
-}
-
-pub fn no_word_above(plane: &[u32], most: u32) -> bool
-    ensures { λ r. ⌜ r ≡ noneAbove (now (plane .entry)) most ⌝ }
-{
-    let mut fine = true;
-    let mut k = 0;
-    while k < plane.len() {
-        fine = and_too(fine, plane[k] <= most);
-        k += 1;
-    }
-    fine
-}
-
-fn piece_stored(piece: u32, most: u32) -> bool
-    ensures { λ r. ⌜ r ≡ within 1 most piece ⌝ }
-{
-    and_too(1 <= piece, piece <= most)
-}
-
-pub fn pieces_stored(pieces: &[u32], count: u32) -> bool
-    requires { ⌜ colourCount count ≡ true ⌝ }
-    ensures { λ r. ⌜ r ≡ piecesStored (now (pieces .entry)) count ⌝ }
-{
-    let most = count + 1;
-    let mut fine = true;
-    let mut k = 0;
-    while k < pieces.len() {
-        fine = and_too(fine, piece_stored(pieces[k], most));
-        k += 1;
-    }
-    fine
-}
-
-// Not a NaN and not below zero, which -0.0 is not.
-fn is_number(x: f64) -> bool
-    ensures { λ r. ⌜ r ≡ isNumber x ⌝ }
-{
-    0.0 <= x
-}
-
-fn is_finite(x: f64) -> bool
-    ensures { λ r. ⌜ r ≡ isFinite x ⌝ }
-{
-    and_too(0.0 <= x, x < f64::from_bits(0x7ff0_0000_0000_0000))
-}
-
-pub fn all_numbers(plane: &[f64]) -> bool
-    ensures { λ r. ⌜ r ≡ allAre isNumber (now (plane .entry)) ⌝ }
-{
-    let mut fine = true;
-    let mut k = 0;
-    while k < plane.len() {
-        fine = and_too(fine, is_number(plane[k]));
-        k += 1;
-    }
-    fine
-}
-
-pub fn all_finite(plane: &[f64]) -> bool
-    ensures { λ r. ⌜ r ≡ allAre isFinite (now (plane .entry)) ⌝ }
-{
-    let mut fine = true;
-    let mut k = 0;
-    while k < plane.len() {
-        fine = and_too(fine, is_finite(plane[k]));
-        k += 1;
-    }
-    fine
 }

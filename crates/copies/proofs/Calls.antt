@@ -13,9 +13,10 @@ use Rattle.rules.specs.Places.{newCols, copyChecks}
 use Rattle.rules.specs.declared.Pads.{Pads}
 use Rattle.rules.specs.declared.Written.{Written}
 use Rattle.rules.specs.declared.Written.the-variants.{Done, Refused}
-use Rattle.copies.specs.Laid.{copyAnswer, copyLeaves, sizeChecks, laid, Sized}
-use Rattle.copies.proofs.Copied.{laid-copied}
-use Rattle.copies.proofs.Sides.{sized}
+use Rattle.copies.specs.Copy.{copyAnswer, copyLeaves}
+use Rattle.copy_checks.specs.Laid.{sizeChecks, laid, Sized}
+use Rattle.copy_checks.proofs.Copied.{laid-copied}
+use Rattle.copy_checks.proofs.Sides.{sized}
 
 module _ {A : Type 0} (d fill : A) (plane target : List A) (rows cols : ℕ) (p : Pads) (more : Checks) where
   asked-sizes : (n : ℕ) → n ≡ refusal (sizeChecks rows cols p (length plane) (length target)) → (n ≡ 0 → ⊥)

@@ -10,7 +10,7 @@ use Rattle.rules.specs.Bounds.{NUMBER}
 use Rattle.rules.specs.Floats.{one64, isNumber, allAre}
 use Rattle.rules.specs.declared.Pads.{Pads}
 use Rattle.rules.specs.declared.Written.{Written}
-use Rattle.copies.specs.Laid.{copyAnswer, copyLeaves}
+use Rattle.copies.specs.Copy.{copyAnswer, copyLeaves}
 
 pub extend-array-2d-u32 : (plane target : List ℕ) (rows cols : ℕ) (p : Pads) {r s : Written} {u v : List ℕ}
     → Gives (copyAnswer plane rows cols p target accepted) (copyLeaves 0 1 plane rows cols p target accepted) r u

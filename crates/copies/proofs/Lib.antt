@@ -1,5 +1,3 @@
-pub mod Copied
-pub mod Sides
 pub mod Calls
 pub mod Meaning
 pub mod Coincide

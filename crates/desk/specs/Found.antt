@@ -3,7 +3,7 @@ use Prim.Native.Nat.{ℕ}
 use mathlib.Core.List.{List}
 use Rattle.rules.specs.declared.Listing.{Listing}
 use Rattle.rules.specs.declared.Listing.the-variants as Listing·
-use Rattle.boundary.specs.Boundary.{put}
+use Rattle.slots.specs.Slots.{put}
 
 abbrev pub coloursLeft : Listing → List ℕ → List ℕ
 coloursLeft (Listing·.Colours s) found = put found 0 (s .bits)

@@ -5,15 +5,16 @@ ghost use Rattle.base.specs.Refusal.{Gives, refusal};
 ghost use Rattle.rules.specs.Answers.{layAnswer, liftAnswer};
 ghost use Rattle.rules.specs.Fit.{listing};
 ghost use Rattle.rules.specs.Board.{layChecks, afterLay, liftChecks, afterLift};
-ghost use Rattle.board.specs.Calls.{board, job};
-ghost use Rattle.boundary.specs.Boundary.{world, offsetBy, layNumber, liftNumber, listingNumber};
+ghost use Rattle.planes.specs.Planes.{board, job};
+ghost use Rattle.slots.specs.Slots.{world, offsetBy};
+ghost use Rattle.boundary.specs.Boundary.{layNumber, liftNumber, listingNumber};
 ghost use Rattle.desk.specs.Found.{coloursLeft};
 use boundary::laid;
 use boundary::lifted;
-use boundary::offset_at;
-use boundary::put_long;
-use boundary::world_at;
 use rules::Listing;
+use slots::offset_at;
+use slots::put_long;
+use slots::world_at;
 
 // The set goes over as one word of 64 bits, so that sets to 64 colours leave the C side as it is; further words are for what a listing may
 // tell one day beside its colours.

@@ -22,7 +22,7 @@ fn extension_refused(
     if !checks::board_sides(rows, cols) {
         return rules::SHAPE;
     }
-    places::region_refused(offset, coordinates, radius)
+    spans::region_refused(offset, coordinates, radius)
 }
 
 // How far a grid must grow to hold a place with a radius round it.
@@ -58,7 +58,7 @@ pub fn constrained_extension(
     if refused != 0 {
         return ExtensionAnswer::Refused(refused);
     }
-    if !places::box_fits(bounds) {
+    if !boxes::box_fits(bounds) {
         return ExtensionAnswer::Refused(rules::PLACE);
     }
     let wanted = pads::pads_of(rows, cols, offset, coordinates, radius);

@@ -344,7 +344,7 @@ fn chequer_counts() -> [u32; 25] {
     let mut pieces = [0u32; 25];
     let mut weights = [0u32; 25];
     let mut counts = [0u32; 25];
-    board::fresh(&mut pieces, &mut weights, &mut counts, 5, 5, 2);
+    planes::fresh(&mut pieces, &mut weights, &mut counts, 5, 5, 2);
     board::lay(
         &mut pieces,
         &mut weights,

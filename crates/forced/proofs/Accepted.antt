@@ -16,7 +16,7 @@ use Rattle.rules.specs.declared.ForcedPosition.{ForcedPosition}
 use Rattle.rules.specs.declared.ForcedPositions.{ForcedPositions}
 use Rattle.rules.specs.declared.ForcedAnswer.{ForcedAnswer}
 use Rattle.places.proofs.Indices.{placed}
-use Rattle.fit.proofs.Accepted.{accepted-ready}
+use Rattle.windows.proofs.Accepted.{accepted-ready}
 use Rattle.forced.specs.Round.{Roundable, afterPlace, afterPieces}
 
 pub then-both : (cs ds : Checks) → numbered cs ≡ true → refusal (cs then ds) ≡ 0 → (refusal cs ≡ 0) × (refusal ds ≡ 0)

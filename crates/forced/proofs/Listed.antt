@@ -16,7 +16,8 @@ use Rattle.rules.specs.declared.Listing.the-variants.{Colours, Refused}
 use Rattle.sets.proofs.Digits.{bits-lt}
 use Rattle.sets.proofs.Colours.{colours-back}
 use Rattle.sets.proofs.Calls.{set-bits}
-use Rattle.fit.specs.Ready.{Ready, OnGrid}
+use Rattle.pattern.specs.Ready.{OnGrid}
+use Rattle.windows.specs.Ready.{Ready}
 
 pub cell-inside : (pieces : List ℕ) (rows cols : ℕ) (tiles : List ℕ) (count r c : ℕ) → Ready pieces rows cols tiles count → OnGrid rows cols r c
     → (r * cols + c < rows * cols) × (rows * cols ≤ 4096)

@@ -15,7 +15,7 @@ use Rattle.rules.specs.declared.World.{World}
 use Rattle.rules.specs.declared.Offset.{Offset}
 use Rattle.rules.specs.declared.GenerationBounds.{GenerationBounds}
 use Rattle.rules.specs.declared.ForcedPosition.{ForcedPosition}
-use Rattle.fit.specs.Ready.{Ready}
+use Rattle.windows.specs.Ready.{Ready}
 
 -- pieces, tiles and colours that are ready, and a place on the wall
 pub record Roundable (pieces : List ℕ) (rows cols : ℕ) (tiles : List ℕ) (count : ℕ) (w : World) : Type 0 where

@@ -15,7 +15,8 @@ ghost use Rattle.rules.specs.Grid.{flat, laidOn};
 ghost use Rattle.rules.specs.Fit.{piecesChecks};
 ghost use Rattle.rules.specs.Forced.{neighbour, admits, boundsFit, listedAt, only, forcedRound, positionsOf, forcedNeighbours};
 ghost use Rattle.rules.specs.declared.ForcedPosition.{ForcedPosition};
-ghost use Rattle.fit.specs.Ready.{Ready, OnGrid};
+ghost use Rattle.pattern.specs.Ready.{OnGrid};
+ghost use Rattle.windows.specs.Ready.{Ready};
 ghost use Rattle.forced.specs.Round.{Roundable, roundOrder, forcedColour, withForced, afterPieces};
 use rules::Cell;
 use rules::ForcedAnswer;
@@ -61,7 +62,7 @@ fn admitted(bounds: GenerationBounds, w: World) -> bool
     let GenerationBounds::Within(corners) = bounds else {
         return true;
     };
-    places::in_box(corners, w)
+    boxes::in_box(corners, w)
 }
 
 // The corners of the box, if one is given, are on the wall.
@@ -71,7 +72,7 @@ fn bounds_fit(bounds: GenerationBounds) -> bool
     let GenerationBounds::Within(corners) = bounds else {
         return true;
     };
-    places::box_fits(corners)
+    boxes::box_fits(corners)
 }
 
 // The only colour that a bare cell lists, 0 where there is none or more than one, or where the cell is laid. The listing is no refusal,
@@ -89,10 +90,11 @@ fn only_colour_at(
     ensures { λ r. ⌜ r ≡ pick (laidOn (now (pieces .entry)) (cell .0 * cols + cell .1)) 0 (only (listedAt (flat rows cols) (now (tiles .entry)) (now (pieces .entry)) count (cell .0 * cols + cell .1))) ⌝ }
 {
     let at = cell.0 * cols + cell.1;
-    if pieces[at] > rules::BARE {
+    if pieces[at] > rules::BARE_PIECE {
         return 0;
     }
-    let Listing::Colours(set) = fit::viable_tiles_at(pieces, rows, cols, tiles, count, cell) else {
+    let Listing::Colours(set) = windows::viable_tiles_at(pieces, rows, cols, tiles, count, cell)
+    else {
         return 0;
     };
     sets::only_colour(set.bits)

@@ -8,22 +8,23 @@ ghost use Rattle.rules.specs.Board.{freshChecks, afterFresh, layChecks, afterLa
 ghost use Rattle.rules.specs.Places.{regionSpans};
 ghost use Rattle.rules.specs.Scores.{fractionAt};
 ghost use Rattle.rules.specs.Sets.{emptySet, fullSet, inserted, contained, intersected, emptiness, membersCounted};
-ghost use Rattle.board.specs.Calls.{board, job};
-ghost use Rattle.boundary.specs.Boundary.{world, offsetBy, cellAt, setFrom, setNumber, setLeft, verdictNumber, verdictLeft, countNumber, countLeft, fractionNumber, fractionLeft, spanNumber, spanLeft, writtenNumber, layNumber, liftNumber, listingNumber, listingLeft, deadEndNumber, deadEndLeft};
-use boundary::counted;
-use boundary::divided;
+ghost use Rattle.planes.specs.Planes.{board, job};
+ghost use Rattle.slots.specs.Slots.{world, offsetBy, cellAt, setFrom};
+ghost use Rattle.boundary.specs.Boundary.{setNumber, setLeft, verdictNumber, verdictLeft, countNumber, countLeft, fractionNumber, fractionLeft, spanNumber, spanLeft, writtenNumber, layNumber, liftNumber, listingNumber, listingLeft, deadEndNumber, deadEndLeft};
 use boundary::laid;
 use boundary::lifted;
 use boundary::listed;
-use boundary::offset_at;
-use boundary::scanned;
 use boundary::set_given;
-use boundary::spanned;
 use boundary::told;
-use boundary::world_at;
 use boundary::written;
+use longs::counted;
+use longs::divided;
+use longs::scanned;
+use longs::spanned;
 use rules::Cell;
 use rules::TileBitset;
+use slots::offset_at;
+use slots::world_at;
 
 #[no_mangle]
 pub extern "C" fn port_listing(
@@ -81,7 +82,7 @@ pub extern "C" fn port_fresh(
 ) -> u32
     ensures { λ r. ⌜ Gives (writtenNumber (writtenAnswer (refusal (freshChecks rows cols tiles (board (now (pieces .entry)) (now (weights .entry)) (now (counts .entry))))))) (afterFresh rows cols tiles (board (now (pieces .entry)) (now (weights .entry)) (now (counts .entry)))) r (board (now (pieces .exit)) (now (weights .exit)) (now (counts .exit))) ⌝ }
 {
-    let answer = board::fresh(pieces, weights, counts, rows, cols, tiles);
+    let answer = planes::fresh(pieces, weights, counts, rows, cols, tiles);
     written(answer)
 }
 
@@ -164,7 +165,7 @@ pub extern "C" fn port_get_region_spans(
 {
     let position = world_at(row, col);
     let offset = offset_at(down, across);
-    let answer = places::get_region_spans(offset, position, radius);
+    let answer = spans::get_region_spans(offset, position, radius);
     spanned(answer, out)
 }
 

@@ -3,12 +3,12 @@
 ghost use Rattle.rules.specs.Probabilities.{normaliseChecks, normalised, probabilitiesAt, influenceChecks, multiplied, divided};
 ghost use Rattle.rules.specs.Scores.{layScoreChecks, layScores, liftScoreChecks, liftScores};
 ghost use Rattle.influence.specs.Step.{blockOf};
-ghost use Rattle.boundary.specs.Boundary.{world, offsetBy};
+ghost use Rattle.slots.specs.Slots.{world, offsetBy};
 ghost use Rattle.harness_floats.specs.Told.{Told, spanFrom};
-use boundary::offset_at;
-use boundary::world_at;
 use boundary::written;
 use rules::Span;
+use slots::offset_at;
+use slots::world_at;
 
 #[no_mangle]
 pub extern "C" fn port_normalise(

@@ -23,7 +23,7 @@ use Rattle.rules.specs.declared.Next.{Next}
 use Rattle.rules.specs.declared.Next.the-variants as Next·
 use Rattle.rules.specs.declared.Written.{Written}
 use Rattle.rules.specs.declared.Written.the-variants as Written·
-use Rattle.boundary.specs.Boundary.{put, world}
+use Rattle.slots.specs.Slots.{put, world}
 
 -- the slices that hold positions
 pub record Slices : Type 0 where

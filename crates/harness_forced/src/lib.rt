@@ -2,12 +2,13 @@
 // and tells its answer as crate boundary does. Positions cross as specs/Slices.antt has them.
 ghost use Rattle.base.specs.Refusal.{Gives};
 ghost use Rattle.rules.specs.Forced.{forcedNeighbours, grownBy, takenFrom, queueEmpty, queueLength};
-ghost use Rattle.boundary.specs.Boundary.{world, offsetBy, verdictNumber, verdictLeft, countNumber, countLeft, writtenNumber};
+ghost use Rattle.slots.specs.Slots.{world, offsetBy};
+ghost use Rattle.boundary.specs.Boundary.{verdictNumber, verdictLeft, countNumber, countLeft, writtenNumber};
 ghost use Rattle.harness_forced.specs.Slices.{queueFrom, positionsFrom, boundsFrom, slices, queueIn, grownLeft, taking, nextNumber, takenLeft, forcedLeft};
-use boundary::counted;
-use boundary::offset_at;
 use boundary::told;
-use boundary::world_at;
+use longs::counted;
+use slots::offset_at;
+use slots::world_at;
 
 mod lent;
 mod slices;

@@ -5,11 +5,9 @@ ghost use lib.ListN.{getD};
 ghost use lib.IntN.{pos};
 ghost use Rattle.rules.specs.Bounds.{queueRoom};
 ghost use Rattle.base.specs.Refusal.{Gives};
-ghost use Rattle.boundary.specs.Boundary.{put, writtenNumber};
+ghost use Rattle.slots.specs.Slots.{put};
+ghost use Rattle.boundary.specs.Boundary.{writtenNumber};
 ghost use Rattle.harness_forced.specs.Slices.{entryAt, queueFrom, positionsFrom, boundsFrom, slices, placeStored, queueStored, positionsStored, addedLeft, taking, nextNumber, nextLeft, foundLeft};
-use boundary::put_long;
-use boundary::put_signed;
-use boundary::put_word;
 use rules::BoundingBox;
 use rules::ForcedPipeline;
 use rules::ForcedPosition;
@@ -18,6 +16,9 @@ use rules::GenerationBounds;
 use rules::Next;
 use rules::World;
 use rules::Written;
+use slots::put_long;
+use slots::put_signed;
+use slots::put_word;
 
 fn signed_at(words: &[i32], at: usize) -> i32
     ensures { λ r. ⌜ r ≡ getD (now (words .entry)) at (pos 0) ⌝ }

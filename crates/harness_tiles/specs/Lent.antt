@@ -1,5 +1,5 @@
--- What crosses beyond crate boundary's own: a box and pads from their numbers, a tile from a slice, and what an extension, a list of
--- colours and a store of tiles leave in the slices lent for them.
+-- What crosses beyond the own of crates slots and boundary: a box and pads from their numbers, a tile from a slice, and what an extension,
+-- a list of colours and a store of tiles leave in the slices lent for them.
 use Prim.Native.Nat.{ℕ, _+_}
 use mathlib.Core.List.{List, [], _∷_}
 use lib.ListN.{getD}
@@ -12,7 +12,7 @@ use Rattle.rules.specs.declared.Pads.{Pads}
 use Rattle.rules.specs.declared.ColourList.{ColourList}
 use Rattle.rules.specs.declared.ExtensionAnswer.{ExtensionAnswer}
 use Rattle.rules.specs.declared.ExtensionAnswer.the-variants as ExtensionAnswer·
-use Rattle.boundary.specs.Boundary.{world, put, digitOf}
+use Rattle.slots.specs.Slots.{world, put, digitOf}
 
 -- ---- what goes in
 

@@ -1,20 +1,20 @@
-// What crosses beyond crate boundary's own: boxes and tiles from numbers and slices, and values of several entries into slices. An entry
-// past the end of a slice is not stored; a refused call stores none.
+// What crosses beyond the own of crates slots and boundary: boxes and tiles from numbers and slices, and values of several entries into
+// slices. An entry past the end of a slice is not stored; a refused call stores none.
 ghost use mathlib.Core.Path.{_≡_};
 ghost use lib.ListN.{getD};
 ghost use Rattle.base.specs.Refusal.{Gives};
 ghost use Rattle.harness_tiles.specs.Lent.{boxOf, nineOf, putFrom, padsStored, offsetStored, extended, extensionNumber, extensionLeft, bytesWith, listLeft};
-use boundary::digit;
-use boundary::put_byte;
-use boundary::put_long;
-use boundary::put_signed;
-use boundary::put_word;
-use boundary::world_at;
 use rules::BoundingBox;
 use rules::ColourList;
 use rules::ExtensionAnswer;
 use rules::Offset;
 use rules::Pads;
+use slots::digit;
+use slots::put_byte;
+use slots::put_long;
+use slots::put_signed;
+use slots::put_word;
+use slots::world_at;
 
 pub fn box_at(minrow: i32, mincol: i32, maxrow: i32, maxcol: i32) -> BoundingBox
     ensures { λ r. ⌜ r ≡ boxOf minrow mincol maxrow maxcol ⌝ }

@@ -8,17 +8,18 @@ ghost use Rattle.rules.specs.Floats.{one64, isNumber, allAre};
 ghost use Rattle.rules.specs.Places.{boxContains, extensionOf, boxedExtension};
 ghost use Rattle.rules.specs.Sets.{membersListed};
 ghost use Rattle.rules.specs.Tiles.{rotated, reflected, membership, extraction, storeAfter};
-ghost use Rattle.copies.specs.Laid.{copyAnswer, copyLeaves};
-ghost use Rattle.boundary.specs.Boundary.{world, offsetBy, setFrom, setNumber, setLeft, verdictNumber, verdictLeft, writtenNumber, tilesNumber, tilesLeft};
+ghost use Rattle.copies.specs.Copy.{copyAnswer, copyLeaves};
+ghost use Rattle.slots.specs.Slots.{world, offsetBy, setFrom};
+ghost use Rattle.boundary.specs.Boundary.{setNumber, setLeft, verdictNumber, verdictLeft, writtenNumber, tilesNumber, tilesLeft};
 ghost use Rattle.harness_tiles.specs.Lent.{boxOf, padsBy, nineOf, putFrom, extended, extensionNumber, extensionLeft, bytesWith, listLeft};
-use boundary::extracted;
-use boundary::offset_at;
 use boundary::set_given;
 use boundary::told;
-use boundary::world_at;
 use boundary::written;
+use longs::extracted;
 use rules::Pads;
 use rules::TileBitset;
+use slots::offset_at;
+use slots::world_at;
 
 mod lent;
 
@@ -36,7 +37,7 @@ pub extern "C" fn port_contains(
 {
     let bounds = lent::box_at(minrow, mincol, maxrow, maxcol);
     let position = world_at(row, col);
-    let answer = places::contains(bounds, position);
+    let answer = boxes::contains(bounds, position);
     told(answer, out)
 }
 

@@ -24,19 +24,21 @@ use Rattle.rules.specs.declared.TileNumber.the-variants as TileNumber·
 use Rattle.checks.proofs.Sides.{whole-number}
 use Rattle.words.specs.Words.{Text, bad, numbers, parsedInto, over, storeWith}
 use Rattle.words.specs.Input.{inputText}
-use Rattle.words.specs.Form.{Step, stepsIn, listOf, isWhole, maxSample, maxBoard, sidesUpTo, headFits, sampleCells, tailFits, isFormed, setupOf, sampleIn, stepNumbers, formOf}
+use Rattle.jobs.specs.Form.{Step, stepsIn, listOf, isWhole, maxSample, maxBoard, sidesUpTo, headFits, sampleCells, tailFits, isFormed, setupOf, sampleIn, stepNumbers, formOf}
 use Rattle.words.specs.declared.Parsed.{Parsed}
 use Rattle.words.specs.declared.Parsed.the-variants as Parsed·
-use Rattle.words.specs.declared.Form.{Form}
-use Rattle.words.specs.declared.Form.the-variants as Form·
-use Rattle.words.specs.declared.Setup.{Setup}
-use Rattle.words.proofs.Forming.{formed-head, formed-tail, head-sides, sides-up, few-cells}
+use Rattle.jobs.specs.declared.Form.{Form}
+use Rattle.jobs.specs.declared.Form.the-variants as Form·
+use Rattle.jobs.specs.declared.Setup.{Setup}
+use Rattle.jobs.proofs.Forming.{formed-head, formed-tail, head-sides, sides-up, few-cells}
 use Rattle.words.proofs.Meaning.{input-few, input-small}
 use Rattle.lines.specs.Pages.{placeAfter, Writes}
 use Rattle.lines.proofs.Written.{length-page, writes-then, writes-as}
-use Rattle.lister.specs.Steps.{answersText, boardIn}
-use Rattle.lister.specs.Printed.{badLine, refusedLine, endText, runText, freshFor, unlessNumber, setupRefusal, tilesOf, jobWith, jobText, numbersText, textFor, printed}
-use Rattle.lister.specs.Runs.{Small, Walks, Ran, Planes, Formed, clipped}
+use Rattle.stepping.specs.Steps.{answersText, boardIn}
+use Rattle.lister.specs.Printed.{badLine, runText, freshFor, unlessNumber, setupRefusal, tilesOf, jobText, numbersText, textFor, printed}
+use Rattle.ending.specs.Ending.{refusedLine, endText, jobWith}
+use Rattle.stepping.specs.Walks.{Small, Walks, Ran}
+use Rattle.lister.specs.Runs.{Planes, Formed, clipped}
 use Rattle.lister.proofs.Setting.{told-refused, told-accepted, told-few, told-tiles, tiles-whole}
 
 -- ---- a fresh board

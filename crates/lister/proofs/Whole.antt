@@ -22,16 +22,18 @@ use Rattle.rules.specs.declared.DeadEnd.{DeadEnd}
 use Rattle.rules.specs.declared.DeadEnd.the-variants as DeadEnd·
 use Rattle.words.specs.Words.{Text, bad, numbers}
 use Rattle.words.specs.Input.{inputText}
-use Rattle.words.specs.Form.{Step, lay, lift, Steps, misformed, steps, stepsIn, listOf, isWhole, maxBoard, sidesUpTo, sampleCells, tailFits, isFormed, setupOf, stepNumbers}
-use Rattle.words.specs.declared.Setup.{Setup}
-use Rattle.words.proofs.Meaning.{spelled, steps-are, input-few}
-use Rattle.words.proofs.Forming.{formed-tail, sides-up}
+use Rattle.jobs.specs.Form.{Step, lay, lift, Steps, misformed, steps, stepsIn, listOf, isWhole, maxBoard, sidesUpTo, sampleCells, tailFits, isFormed, setupOf, stepNumbers}
+use Rattle.jobs.specs.declared.Setup.{Setup}
+use Rattle.words.proofs.Meaning.{input-few}
+use Rattle.jobs.proofs.Meaning.{spelled, steps-are}
+use Rattle.jobs.proofs.Forming.{formed-tail, sides-up}
 use Rattle.lines.specs.Lines.{numberLine}
 use Rattle.lines.specs.Pages.{Writes}
 use Rattle.lines.proofs.Texts.{decimal-length, line-length, plane-length}
 use Rattle.lines.proofs.Written.{writes-all}
-use Rattle.lister.specs.Steps.{answerTo, boardAfter, answersText, boardIn}
-use Rattle.lister.specs.Printed.{refusedLine, planesText, deadEndText, scanText, endText, runText, freshFor, unlessNumber, setupRefusal, tilesOf, jobWith, jobText, numbersText, textFor, printed}
+use Rattle.stepping.specs.Steps.{answerTo, boardAfter, answersText, boardIn}
+use Rattle.ending.specs.Ending.{refusedLine, planesText, deadEndText, scanText, endText, jobWith}
+use Rattle.lister.specs.Printed.{runText, freshFor, unlessNumber, setupRefusal, tilesOf, jobText, numbersText, textFor, printed}
 
 -- ---- planes keep their lengths
 pub record Sized (n : ℕ) (b : Board) : Type 0 where

@@ -4,16 +4,18 @@ ghost use mathlib.Core.Bool.{true};
 ghost use Prim.Native.Nat.{ℕ, _+_, _*_, _<_, _≤_, min};
 ghost use lib.ListN.{length, drop};
 ghost use Rattle.rules.specs.Tests.{wholeTiles};
-ghost use Rattle.words.specs.Form.{stepsIn, listOf, maxBoard, sidesUpTo};
-ghost use Rattle.board.specs.Calls.{board};
+ghost use Rattle.jobs.specs.Form.{stepsIn, listOf, maxBoard, sidesUpTo};
+ghost use Rattle.planes.specs.Planes.{board};
 ghost use Rattle.lines.specs.Pages.{Writes};
-ghost use Rattle.lister.specs.Printed.{jobWith, runText, freshFor, jobText};
-ghost use Rattle.lister.specs.Runs.{Walks, Planes, Formed, clipped};
-use crate::ending::put_end;
-use crate::ending::put_refused;
-use crate::stepping::run_steps;
+ghost use Rattle.ending.specs.Ending.{jobWith};
+ghost use Rattle.lister.specs.Printed.{runText, freshFor, jobText};
+ghost use Rattle.stepping.specs.Walks.{Walks};
+ghost use Rattle.lister.specs.Runs.{Planes, Formed, clipped};
+use ending::put_end;
+use ending::put_refused;
+use jobs::Setup;
 use rules::TileNumber;
-use words::Setup;
+use stepping::run_steps;
 
 fn clip(n: u32) -> u8
     ensures { λ r. ⌜ r ≡ min 255 n ⌝ }
@@ -52,7 +54,7 @@ fn run(
 {
     let rows = setup.board.rows;
     let cols = setup.board.cols;
-    board::fresh(pieces, weights, counts, rows, cols, tiles.len() / 9);
+    planes::fresh(pieces, weights, counts, rows, cols, tiles.len() / 9);
     let next = run_steps(pieces, weights, counts, out, 0, tiles, setup, numbers, from);
     put_end(out, next, pieces, weights, counts, tiles, setup)
 }

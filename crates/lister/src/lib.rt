@@ -1,14 +1,12 @@
 // The listing program's work: the bytes that it prints for the bytes that it reads. The program itself only reads, calls and writes.
-mod ending;
 mod job;
-mod stepping;
 
 ghost use mathlib.Core.Path.{_≡_};
 ghost use Rattle.io.specs.Counts.{Counts};
 ghost use Rattle.lines.specs.Pages.{Writes};
 ghost use Rattle.lister.specs.Printed.{badLine, numbersText, printed};
-ghost use Rattle.lister.specs.Runs.{Small};
-use words::Form;
+ghost use Rattle.stepping.specs.Walks.{Small};
+use jobs::Form;
 use words::Parsed;
 
 // No output is longer, so that a buffer of this length holds it whole.
@@ -24,7 +22,7 @@ fn list_numbers(out: &mut [u8], numbers: &[u32]) -> usize
     requires { ⌜ Small (now numbers) ⌝ }
     ensures { λ r. ⌜ Writes (numbersText (now (numbers .entry))) 0 (now (out .entry)) r (now (out .exit)) ⌝ }
 {
-    let form = words::form_of(numbers);
+    let form = jobs::form_of(numbers);
     let Form::Whole(setup) = form else {
         return put_bad_input(out);
     };

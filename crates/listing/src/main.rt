@@ -3,7 +3,7 @@
 fn main() {
     let mut input = [0u8; 16385];
     let read = io::read_full(libc::STDIN_FILENO, &mut input);
-    let mut out = [0u8; 65536];
+    let mut out = [0u8; lister::MAX_OUTPUT];
     let written = lister::list(&input[..read], &mut out);
     io::write_all(libc::STDOUT_FILENO, &out[..written]);
 }

@@ -15,7 +15,7 @@ fn list_case(k: usize) -> bool {
     let mut input = [0u8; 16385];
     let read = io::read_full(file, &mut input);
     libc::close(file);
-    let mut out = [0u8; 65536];
+    let mut out = [0u8; lister::MAX_OUTPUT];
     let written = lister::list(&input[..read], &mut out);
     io::write_all(STDOUT_FILENO, b"case ");
     io::write_all(STDOUT_FILENO, &name);

@@ -29,7 +29,7 @@ pub fn convert_tile_to_membership_booleans(tile: [u8; 9], count: u32) -> SetAnsw
     if !checks::colour_count(count) {
         return SetAnswer::Refused(rules::COUNT);
     }
-    if !checks::no_byte_above(&tile, count) {
+    if !contents::no_byte_above(&tile, count) {
         return SetAnswer::Refused(rules::CELL);
     }
     let bits = colours_of(tile, count);

@@ -1,4 +1,3 @@
 pub mod Wide
 pub mod Indices
-pub mod Boxes
 pub mod Coincide

@@ -43,7 +43,7 @@ fn refused(n: u8) {
 }
 
 fn span(offset: Offset, at: World, radius: usize) {
-    let answer = places::get_region_spans(offset, at, radius);
+    let answer = spans::get_region_spans(offset, at, radius);
     match answer {
         SpanAnswer::Spans(rows, cols) => {
             io::write_all(STDOUT_FILENO, b"span");
@@ -58,7 +58,7 @@ fn span(offset: Offset, at: World, radius: usize) {
 }
 
 fn inside(bounds: BoundingBox, at: World) {
-    let answer = places::contains(bounds, at);
+    let answer = boxes::contains(bounds, at);
     match answer {
         Verdict::Is(b) => {
             io::write_all(STDOUT_FILENO, b"contains");

@@ -1,27 +1,26 @@
--- What an accepted call has passed, and the step's chain of checks as its two parts.
+-- What an accepted call has passed.
 -- Assumes nothing.
 use Prim.Native.Nat.{ℕ, _*_, _≤_}
-use mathlib.Core.Path.{_≡_, refl}
+use mathlib.Core.Path.{_≡_}
 use mathlib.Core.Bool.{true}
 use mathlib.Core.List.{List}
 use lib.ListN.{length}
 use lib.Ieee.{Float}
 use borrow.Author.Tests.{leb-true}
 use Rattle.base.specs.Counting.{within}
-use Rattle.base.specs.Refusal.{Checks, accepted, _unless_or_, refusal}
+use Rattle.base.specs.Refusal.{refusal}
 use Rattle.base.proofs.Bools.{and-left, and-right}
 use Rattle.base.proofs.Numbers.{within-high}
-use Rattle.base.proofs.Chain.{passed, _then_, numbered, stopped, went-on}
+use Rattle.base.proofs.Chain.{passed}
 use Rattle.checks.proofs.Sides.{long}
-use Rattle.rules.specs.Bounds.{maxRadius, maxInfluenceSide, NUMBER}
+use Rattle.rules.specs.Bounds.{maxRadius, maxInfluenceSide}
 use Rattle.rules.specs.Tests.{boardSides, colourCount}
 use Rattle.rules.specs.Floats.{isNumber, isFinite, allAre}
-use Rattle.rules.specs.Fit.{placeChecks}
 use Rattle.rules.specs.Probabilities.{Block, normaliseChecks, influenceChecks}
 use Rattle.rules.specs.declared.World.{World}
 use Rattle.rules.specs.declared.Offset.{Offset}
 use Rattle.places.proofs.Indices.{Placed, placed}
-use Rattle.probabilities.specs.Calls.{sizeChecks, PlaceFits}
+use Rattle.taking.specs.Fits.{PlaceFits}
 
 pub record Normalises (plane out : List Float) (rows cols count : ℕ) : Type 0 where
   pub fits : PlaceFits plane out rows cols count
@@ -79,15 +78,3 @@ module _ (plane : List Float) (rows cols count : ℕ) (b : Block) (w : World) (o
         block-finite = c8 .0;
         place = placed rows cols w o (c8 .1);
       }
-
-  abbrev rest : Checks
-  rest = NUMBER unless allAre isFinite plane or NUMBER unless allAre isFinite (b .entries) or placeChecks rows cols w o accepted
-
-  -- the sizes are refused, and the sizes are in order
-  pub sizes-stop : {r : ℕ} → r ≡ refusal (sizeChecks plane rows cols count b k) → (r ≡ 0 → ⊥) → r ≡ refusal (influenceChecks plane rows cols count b w o k)
-  unfolding _then_
-  sizes-stop {r} e h = stopped r (sizeChecks plane rows cols count b k) rest e h
-
-  pub sizes-go : {r m : ℕ} → r ≡ refusal (sizeChecks plane rows cols count b k) → r ≡ 0 → m ≡ refusal rest → m ≡ refusal (influenceChecks plane rows cols count b w o k)
-  unfolding _then_ numbered
-  sizes-go e z h = went-on (sizeChecks plane rows cols count b k) rest refl e z h

@@ -1,4 +1,3 @@
-pub mod Place
 pub mod Whole
 pub mod Accept
 pub mod Coincide

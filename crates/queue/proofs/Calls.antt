@@ -20,7 +20,8 @@ use Rattle.rules.specs.declared.Written.the-variants as Written·
 use Rattle.rules.specs.declared.Next.the-variants as Next·
 use Rattle.rules.specs.declared.Verdict.the-variants as Verdict·
 use Rattle.rules.specs.declared.Number.the-variants as Number·
-use Rattle.queue.specs.Unchecked.{Adding, entryChecks, roomChecks, grownTo, nextOut}
+use Rattle.entries.specs.Unchecked.{Adding, roomChecks, grownTo, nextOut}
+use Rattle.queue.specs.Refusals.{entryChecks}
 
 -- calls on a queue alone; n is what the checks answered
 module _ (q : ForcedPipeline) where

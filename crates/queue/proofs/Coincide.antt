@@ -5,7 +5,7 @@ use mathlib.Core.Path.{_≡_}
 use mathlib.Core.List.{[]}
 use Rattle.base.specs.Refusal.{Gives}
 use Rattle.base.proofs.Chain.{coincide, gives-coincide}
-use Rattle.rules.specs.Forced.{queued, offered, queueOf, withPositions, grownBy, takenFrom, queueEmpty, queueLength}
+use Rattle.rules.specs.Forced.{queueOf, grownBy, takenFrom, queueEmpty, queueLength}
 use Rattle.rules.specs.declared.ForcedPositions.{ForcedPositions}
 use Rattle.rules.specs.declared.ForcedPipeline.{ForcedPipeline}
 use Rattle.rules.specs.declared.Grown.{Grown}
@@ -14,7 +14,6 @@ use Rattle.rules.specs.declared.Verdict.{Verdict}
 use Rattle.rules.specs.declared.Number.{Number}
 use Rattle.rules.specs.declared.Next.{Next}
 use Rattle.rules.specs.declared.Written.{Written}
-use Rattle.queue.specs.Unchecked.{grownTo, nextOut}
 
 pub new : {r s : ForcedPipeline} → r ≡ queueOf [] → s ≡ queueOf [] → r ≡ s
 new p q = coincide p q
@@ -41,12 +40,3 @@ pub add-positions-to : (entry : ForcedPipeline) (positions : ForcedPositions) {r
     → Gives (grownBy entry positions .answer) (grownBy entry positions .queue) r m
     → Gives (grownBy entry positions .answer) (grownBy entry positions .queue) s n → (r ≡ s) × (m ≡ n)
 add-positions-to entry positions p q = gives-coincide p q
-
--- beneath the checks
-pub unchecked-add-positions : (queue : ForcedPipeline) (positions : ForcedPositions) {r s : Grown}
-    → r ≡ grownTo queue (withPositions (queued queue) (offered positions))
-    → s ≡ grownTo queue (withPositions (queued queue) (offered positions)) → r ≡ s
-unchecked-add-positions queue positions p q = coincide p q
-
-pub unchecked-take-next : (queue : ForcedPipeline) {r s : Taken} → r ≡ nextOut (queued queue) → s ≡ nextOut (queued queue) → r ≡ s
-unchecked-take-next queue p q = coincide p q

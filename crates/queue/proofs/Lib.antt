@@ -1,6 +1,4 @@
-pub mod Places
-pub mod Entries
-pub mod Growth
+pub mod Wall
 pub mod Calls
 pub mod Walks
 pub mod Order

@@ -14,8 +14,8 @@ use Rattle.rules.specs.declared.ForcedPosition.{ForcedPosition}
 use Rattle.rules.specs.declared.ForcedPositions.{ForcedPositions}
 use Rattle.rules.specs.declared.ForcedPipeline.{ForcedPipeline}
 use Rattle.queue.specs.Runs.{fresh, noneTwice, Call, adding, taking, left, comesIn, goesOut, positionIn, leftAfter, allIn, allOut}
-use Rattle.queue.proofs.Entries.{queued-of}
-use Rattle.queue.proofs.Growth.{with-old, with-new, with-one, with-none}
+use Rattle.entries.proofs.Entries.{queued-of}
+use Rattle.entries.proofs.Growth.{with-old, with-new, with-one, with-none}
 
 -- the new places stand behind the old ones, in the order in which they were offered
 pub appended : (l more : List ForcedPosition) → withPositions l more ≡ l ++ fresh l more

@@ -1,2 +1,2 @@
-pub mod Unchecked
+pub mod Refusals
 pub mod Runs

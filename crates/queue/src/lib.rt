@@ -5,31 +5,21 @@ ghost use mathlib.Core.List.{[]};
 ghost use Rattle.base.specs.Refusal.{Gives};
 ghost use Rattle.rules.specs.Forced.{queueOf, grownBy, takenFrom, queueEmpty, queueLength};
 use rules::ForcedPipeline;
-use rules::ForcedPosition;
 use rules::ForcedPositions;
 use rules::Grown;
 use rules::Next;
 use rules::Number;
 use rules::Taken;
 use rules::Verdict;
-use rules::World;
 use rules::Written;
 
 mod refusals;
-pub mod unchecked;
 
 // A queue with no entry.
 pub fn new() -> ForcedPipeline
     ensures { λ r. ⌜ r ≡ queueOf [] ⌝ }
 {
-    let none = ForcedPosition {
-        coordinates: World(0, 0),
-        colour: 0,
-    };
-    ForcedPipeline {
-        entries: [none; rules::QUEUE_ROOM],
-        len: 0,
-    }
+    entries::new()
 }
 
 // Each of the positions goes to the back, unless its place is queued already.
@@ -41,7 +31,7 @@ pub fn add_positions(queue: ForcedPipeline, positions: ForcedPositions) -> Grown
         let answer = Written::Refused(refused);
         return Grown { answer, queue };
     }
-    unchecked::add_positions(queue, positions)
+    entries::add_positions(queue, positions)
 }
 
 // The position that is next out, and the queue without it.
@@ -53,7 +43,7 @@ pub fn take_next(queue: ForcedPipeline) -> Taken
         let next = Next::Refused(refused);
         return Taken { next, queue };
     }
-    unchecked::take_next(queue)
+    entries::take_next(queue)
 }
 
 pub fn is_empty(queue: ForcedPipeline) -> Verdict

@@ -4,7 +4,7 @@ ghost use Prim.Native.Nat.{_≤_};
 ghost use Rattle.base.specs.Refusal.{refusal};
 ghost use Rattle.rules.specs.Bounds.{queueRoom, addedRoom};
 ghost use Rattle.rules.specs.Forced.{queued, offered, allOnWall, queueChecks};
-ghost use Rattle.queue.specs.Unchecked.{entryChecks};
+ghost use Rattle.queue.specs.Refusals.{entryChecks};
 use rules::ForcedPipeline;
 use rules::ForcedPositions;
 

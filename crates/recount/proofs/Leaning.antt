@@ -11,8 +11,8 @@ use Rattle.rules.specs.Fit.{piecesChecks, placeChecks}
 use Rattle.rules.specs.Board.{recountChecks}
 use Rattle.rules.specs.declared.World.{World}
 use Rattle.rules.specs.declared.Offset.{Offset}
-use Rattle.fit.specs.Ready.{Countable}
-use Rattle.fit.proofs.Accepted.{accepted-ready}
+use Rattle.windows.specs.Ready.{Countable}
+use Rattle.windows.proofs.Accepted.{accepted-ready}
 use Rattle.recount.specs.Checks.{planesChecks}
 
 module _ (counts pieces : List ℕ) (rows cols : ℕ) (tiles : List ℕ) (count : ℕ) where

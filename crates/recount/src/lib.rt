@@ -9,18 +9,20 @@ ghost use Rattle.rules.specs.Bounds.{maxTiles};
 ghost use Rattle.rules.specs.Grid.{flat};
 ghost use Rattle.rules.specs.Answers.{writtenAnswer};
 ghost use Rattle.rules.specs.Board.{recounted, recountChecks, afterRecount};
-ghost use Rattle.fit.specs.Ready.{Countable, OnGrid};
-ghost use Rattle.steps.specs.Near.{recountedAt, OnPlane, InRow, Nearby};
-ghost use Rattle.recount.specs.Checks.{countAfter, contentsChecks, planesChecks};
+ghost use Rattle.pattern.specs.Ready.{OnGrid};
+ghost use Rattle.windows.specs.Ready.{Countable};
+ghost use Rattle.nearness.specs.Near.{OnPlane, InRow, Nearby};
+ghost use Rattle.recount.specs.Checks.{countAfter, recountedAt, contentsChecks, planesChecks};
 use checks::board_sides;
 use checks::cells_of;
 use checks::colour_count;
-use checks::no_byte_above;
-use checks::no_word_above;
-use checks::pieces_stored;
 use checks::tile_number;
 use checks::words_have_length;
-use fit::fit_count_at;
+use contents::no_byte_above;
+use contents::no_word_above;
+use contents::pieces_stored;
+use nearness::distance;
+use nearness::near_spans;
 use places::cell_of;
 use rules::Cell;
 use rules::Offset;
@@ -29,8 +31,7 @@ use rules::SpanAnswer;
 use rules::TileNumber;
 use rules::World;
 use rules::Written;
-use steps::distance;
-use steps::near_spans;
+use windows::fit_count_at;
 
 // The count of the region that starts at (row, col) after the piece on `cell` changed: counted anew within distance 2 where the region
 // lies inside the grid, else as it was.

@@ -14,6 +14,10 @@ maxBoardSide = 64
 abbrev pub maxTiles : ℕ
 maxTiles = 7200
 
+-- tile size 3 only, so nine bytes each
+abbrev pub tileCells : ℕ
+tileCells = 9
+
 abbrev pub maxRadius : ℕ
 maxRadius = 63
 

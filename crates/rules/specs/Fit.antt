@@ -6,7 +6,7 @@ use lib.Dec.{ltb, eqb}
 use lib.ListN.{getD}
 use Rattle.base.specs.Counting.{every, some, tally}
 use Rattle.base.specs.Refusal.{Checks, accepted, _unless_or_, refusal}
-use Rattle.rules.specs.Bounds.{SHAPE, LENGTH, COUNT, CELL, PLACE}
+use Rattle.rules.specs.Bounds.{tileCells, SHAPE, LENGTH, COUNT, CELL, PLACE}
 use Rattle.rules.specs.Tests.{boardSides, hasLength, wholeTiles, tilesIn, colourCount, noneAbove, piecesStored, onWall, offsetFits, onBoard}
 use Rattle.rules.specs.Answers.{listingAnswer, numberAnswer}
 use Rattle.rules.specs.Sets.{setOf}
@@ -26,10 +26,10 @@ unfoldable pub agrees : ℕ → ℕ → Bool
 agrees colour cell = eqb colour 0 || eqb colour cell
 
 abbrev pub agreesAt : List ℕ → (ℕ → ℕ) → ℕ → ℕ → Bool
-agreesAt tiles shown n i = agrees (shown i) (getD tiles (n * 9 + i) 0)
+agreesAt tiles shown n i = agrees (shown i) (getD tiles (n * tileCells + i) 0)
 
 unfoldable pub fitsTile : List ℕ → (ℕ → ℕ) → ℕ → Bool
-fitsTile tiles shown n = every 9 (agreesAt tiles shown n)
+fitsTile tiles shown n = every tileCells (agreesAt tiles shown n)
 
 -- the number of tiles that fit
 unfoldable pub fitCount : List ℕ → (ℕ → ℕ) → ℕ
@@ -37,7 +37,7 @@ fitCount tiles shown = tally (tilesIn tiles) (fitsTile tiles shown)
 
 -- there is a fitting tile with colour t at place q
 abbrev pub serves : List ℕ → (ℕ → ℕ) → ℕ → ℕ → ℕ → Bool
-serves tiles shown q t n = fitsTile tiles shown n && eqb t (getD tiles (n * 9 + q) 0)
+serves tiles shown q t n = fitsTile tiles shown n && eqb t (getD tiles (n * tileCells + q) 0)
 
 unfoldable pub hasFitting : List ℕ → (ℕ → ℕ) → ℕ → ℕ → Bool
 hasFitting tiles shown q t = some (tilesIn tiles) (serves tiles shown q t)

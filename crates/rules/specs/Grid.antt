@@ -6,6 +6,7 @@ use mathlib.Core.List.{List}
 use lib.Dec.{leb, ltb}
 use lib.ListN.{getD}
 use Rattle.base.specs.Counting.{pick}
+use Rattle.rules.specs.Bounds.{bare}
 use Rattle.rules.specs.Places.{cellOf}
 use Rattle.rules.specs.declared.World.{World}
 use Rattle.rules.specs.declared.Offset.{Offset}
@@ -49,8 +50,8 @@ numberOf cols w o = cellOf w o .0 * cols + cellOf w o .1
 
 -- the colour that stands on cell k, 0 where it is bare or past the edge
 abbrev pub colourOn : List ℕ → ℕ → ℕ
-colourOn pieces k = getD pieces k 0 - 1
+colourOn pieces k = getD pieces k 0 - bare
 
 -- a piece stands on cell k
 abbrev pub laidOn : List ℕ → ℕ → Bool
-laidOn pieces k = ltb 1 (getD pieces k 0)
+laidOn pieces k = ltb bare (getD pieces k 0)

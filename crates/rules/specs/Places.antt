@@ -53,11 +53,7 @@ abbrev pub boxFits : BoundingBox → Bool
 boxFits b = onWall (b .min) && onWall (b .max)
 
 abbrev pub boxChecks : BoundingBox → World → Checks
-boxChecks b w =
-    PLACE unless onWall (b .min)
-    or PLACE unless onWall (b .max)
-    or PLACE unless onWall w
-    or accepted
+boxChecks b w = PLACE unless boxFits b or PLACE unless onWall w or accepted
 
 unfoldable pub boxContains : BoundingBox → World → Verdict
 boxContains b w = verdictAnswer (refusal (boxChecks b w)) (inBox b w)
@@ -126,7 +122,7 @@ extensionOf rows cols o w k =
 unfoldable pub boxedExtension : ℕ → ℕ → Offset → World → ℕ → BoundingBox → ExtensionAnswer
 boxedExtension rows cols o w k b =
     extensionAnswer
-    (refusal (extensionChecks rows cols o w k (PLACE unless onWall (b .min) or PLACE unless onWall (b .max) or accepted)))
+    (refusal (extensionChecks rows cols o w k (PLACE unless boxFits b or accepted)))
     (extensionBy o (boxedPads b rows cols o (padsOf rows cols o w k)))
 
 -- the sides that the pads of a copy make

@@ -7,7 +7,7 @@ use lib.ListN.{length, getD}
 use lib.IntN.{_+ℤ_}
 use Rattle.base.specs.Counting.{every, within}
 use Rattle.base.specs.Whole.{withinZ, indexBelow}
-use Rattle.rules.specs.Bounds.{maxColours, maxSampleSide, maxBoardSide, maxTiles, minCoordinate, maxCoordinate, minOffset, maxOffset}
+use Rattle.rules.specs.Bounds.{maxColours, maxSampleSide, maxBoardSide, maxTiles, tileCells, bare, minCoordinate, maxCoordinate, minOffset, maxOffset}
 use Rattle.rules.specs.declared.World.{World}
 use Rattle.rules.specs.declared.Offset.{Offset}
 
@@ -23,13 +23,13 @@ unfoldable pub hasLength : {A : Type 0} → List A → ℕ → Bool
 hasLength plane n = eqb (length plane) n
 
 abbrev pub tilesIn : List ℕ → ℕ
-tilesIn tiles = length tiles / 9
+tilesIn tiles = length tiles / tileCells
 
 unfoldable pub tileNumber : ℕ → Bool
 tileNumber n = within 1 maxTiles n
 
 unfoldable pub wholeTiles : List ℕ → Bool
-wholeTiles tiles = eqb (length tiles % 9) 0 && tileNumber (tilesIn tiles)
+wholeTiles tiles = eqb (length tiles % tileCells) 0 && tileNumber (tilesIn tiles)
 
 -- COUNT
 unfoldable pub colourCount : ℕ → Bool
@@ -43,7 +43,7 @@ unfoldable pub noneAbove : List ℕ → ℕ → Bool
 noneAbove plane most = every (length plane) (entryUpTo plane most)
 
 abbrev pub pieceStored : List ℕ → ℕ → ℕ → Bool
-pieceStored pieces count k = within 1 (count + 1) (getD pieces k 0)
+pieceStored pieces count k = within bare (count + 1) (getD pieces k 0)
 
 unfoldable pub piecesStored : List ℕ → ℕ → Bool
 piecesStored pieces count = every (length pieces) (pieceStored pieces count)

@@ -7,7 +7,7 @@ use lib.ListN.{length, getD, take, drop}
 use Rattle.base.specs.Counting.{pick, every, some}
 use Rattle.base.specs.Tables.{tab}
 use Rattle.base.specs.Refusal.{Checks, accepted, _unless_or_, refusal, unlessRefused}
-use Rattle.rules.specs.Bounds.{SHAPE, LENGTH, COUNT, CELL, ROOM}
+use Rattle.rules.specs.Bounds.{tileCells, SHAPE, LENGTH, COUNT, CELL, ROOM}
 use Rattle.rules.specs.Tests.{sampleSides, hasLength, wholeTiles, tilesIn, colourCount, noneAbove}
 use Rattle.rules.specs.Answers.{tileAnswer, setAnswer}
 use Rattle.rules.specs.Sets.{setOf}
@@ -24,7 +24,7 @@ startsAlong side = side - 3 + 1
 
 -- the tile of the window that starts at (r, c)
 unfoldable pub windowTile : List ℕ → ℕ → ℕ → ℕ → ℕ → List ℕ
-windowTile sample rows cols r c = tab 9 (λ k. sampleCell sample rows cols (r + k / 3) (c + k % 3))
+windowTile sample rows cols r c = tab tileCells (λ k. sampleCell sample rows cols (r + k / 3) (c + k % 3))
 
 -- Rotation puts old (2-j, i) at (i, j); reflection puts (i, 2-j) there
 abbrev pub turnedFrom : ℕ → ℕ
@@ -34,10 +34,10 @@ abbrev pub mirroredFrom : ℕ → ℕ
 mirroredFrom k = k / 3 * 3 + (2 - k % 3)
 
 unfoldable pub rotated : List ℕ → List ℕ
-rotated tile = tab 9 (λ k. getD tile (turnedFrom k) 0)
+rotated tile = tab tileCells (λ k. getD tile (turnedFrom k) 0)
 
 unfoldable pub reflected : List ℕ → List ℕ
-reflected tile = tab 9 (λ k. getD tile (mirroredFrom k) 0)
+reflected tile = tab tileCells (λ k. getD tile (mirroredFrom k) 0)
 
 -- n successive rotations
 unfoldable pub turned : ℕ → List ℕ → List ℕ
@@ -66,7 +66,7 @@ variants rows cols rotations reflections = startsAlong rows * startsAlong cols *
 
 -- tile n of a list equals a tile
 unfoldable pub sameTile : List ℕ → List ℕ → ℕ → Bool
-sameTile tiles tile n = every 9 (λ k. eqb (getD tiles (n * 9 + k) 0) (getD tile k 0))
+sameTile tiles tile n = every tileCells (λ k. eqb (getD tiles (n * tileCells + k) 0) (getD tile k 0))
 
 unfoldable pub hasTile : List ℕ → List ℕ → Bool
 hasTile tiles tile = some (tilesIn tiles) (sameTile tiles tile)
@@ -86,7 +86,7 @@ extracted sample rows cols rotations reflections =
 -- the first tiles, as many as fit whole, over the first bytes of the store; its other bytes are never touched
 unfoldable pub storeWith : List ℕ → List ℕ → List ℕ
 storeWith tiles store =
-    let first : List ℕ = take (tilesIn store * 9) tiles in
+    let first : List ℕ = take (tilesIn store * tileCells) tiles in
     first ++ drop (length first) store
 
 abbrev pub sampleChecks : List ℕ → ℕ → ℕ → ℕ → Checks → Checks
@@ -117,7 +117,7 @@ storeAfter sample rows cols count rotations reflections store =
 unfoldable pub membership : List ℕ → ℕ → SetAnswer
 membership tile count =
     setAnswer (refusal (COUNT unless colourCount count or CELL unless noneAbove tile count or accepted))
-    (setOf count (λ t. some 9 (λ k. eqb t (getD tile k 0))))
+    (setOf count (λ t. some tileCells (λ k. eqb t (getD tile k 0))))
 
 -- how many tiles a list has
 unfoldable pub tilesCounted : List ℕ → TileNumber

@@ -29,7 +29,7 @@ pub const QUEUE_ROOM: usize = 64;
 
 pub const ADDED_ROOM: usize = 8;
 
-pub const BARE: u32 = 1;
+pub const BARE_PIECE: u32 = 1;
 
 // Document 01, "Refusal numbers".
 pub const SHAPE: u8 = 1;
@@ -48,7 +48,7 @@ pub const TYPE: u8 = 7;
 
 pub const TAKEN: u8 = 8;
 
-pub const BARE_CELL: u8 = 9;
+pub const BARE: u8 = 9;
 
 pub const ROOM: u8 = 10;
 

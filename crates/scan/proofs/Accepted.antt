@@ -9,7 +9,7 @@ use Rattle.rules.specs.Bounds.{SHAPE, LENGTH, COUNT, CELL}
 use Rattle.rules.specs.Tests.{boardSides, hasLength, wholeTiles, colourCount, noneAbove, piecesStored}
 use Rattle.rules.specs.Forced.{scanChecks, deadEnd}
 use Rattle.checks.proofs.Sides.{long}
-use Rattle.fit.proofs.Accepted.{accepted-ready}
+use Rattle.windows.proofs.Accepted.{accepted-ready}
 use Rattle.scan.specs.Scanned.{Scannable, foundBy, scanned}
 
 pub scannable : (pieces weights : List ℕ) (rows cols : ℕ) (tiles : List ℕ) (count : ℕ) → refusal (scanChecks pieces weights rows cols tiles count) ≡ 0

@@ -21,7 +21,7 @@ use Rattle.rules.specs.Grid.{flat}
 use Rattle.rules.specs.Forced.{listedAt, deadAt, scanChecks, deadEnd}
 use Rattle.rules.specs.declared.Cell.{Cell}
 use Rattle.rules.specs.declared.DeadEnd.the-variants.{At, Nowhere}
-use Rattle.fit.specs.Ready.{OnGrid}
+use Rattle.pattern.specs.Ready.{OnGrid}
 
 -- a cell before another, row by row
 abbrev pub Before : ℕ → ℕ → ℕ → ℕ → Type 0

@@ -13,7 +13,7 @@ use Rattle.rules.specs.Answers.{deadEndAnswer}
 use Rattle.rules.specs.Grid.{flat}
 use Rattle.rules.specs.Forced.{deadAt}
 use Rattle.rules.specs.declared.DeadEnd.{DeadEnd}
-use Rattle.fit.specs.Ready.{Ready}
+use Rattle.windows.specs.Ready.{Ready}
 
 -- pieces, tiles and colours that are ready, and a weight for each cell
 pub record Scannable (pieces weights : List ℕ) (rows cols : ℕ) (tiles : List ℕ) (count : ℕ) : Type 0 where

@@ -4,7 +4,7 @@ ghost use Prim.Native.Nat.{_+_, _*_};
 ghost use Rattle.base.specs.Refusal.{refusal};
 ghost use Rattle.rules.specs.Grid.{flat};
 ghost use Rattle.rules.specs.Forced.{deadAt, scanChecks, deadEnd};
-ghost use Rattle.fit.specs.Ready.{OnGrid};
+ghost use Rattle.pattern.specs.Ready.{OnGrid};
 ghost use Rattle.scan.specs.Scanned.{Scannable, scanned, lengthChecks, cellChecks};
 use rules::Cell;
 use rules::DeadEnd;
@@ -37,13 +37,13 @@ fn cells_refused(pieces: &[u32], weights: &[u32], tiles: &[u8], count: u32) -> u
     if !checks::colour_count(count) {
         return rules::COUNT;
     }
-    if !checks::no_byte_above(tiles, count) {
+    if !contents::no_byte_above(tiles, count) {
         return rules::CELL;
     }
-    if !checks::pieces_stored(pieces, count) {
+    if !contents::pieces_stored(pieces, count) {
         return rules::CELL;
     }
-    if !checks::no_word_above(weights, rules::MAX_WEIGHT) {
+    if !contents::no_word_above(weights, rules::MAX_WEIGHT) {
         return rules::CELL;
     }
     0
@@ -83,13 +83,14 @@ fn is_dead_end(
     ensures { λ r. ⌜ r ≡ deadAt (flat rows cols) (now (tiles .entry)) (now (pieces .entry)) (now (weights .entry)) count (cell .0 * cols + cell .1) ⌝ }
 {
     let at = cell.0 * cols + cell.1;
-    if pieces[at] > rules::BARE {
+    if pieces[at] > rules::BARE_PIECE {
         return false;
     }
     if weights[at] <= 1 {
         return false;
     }
-    let Listing::Colours(set) = fit::viable_tiles_at(pieces, rows, cols, tiles, count, cell) else {
+    let Listing::Colours(set) = windows::viable_tiles_at(pieces, rows, cols, tiles, count, cell)
+    else {
         return false;
     };
     sets::no_colour(set.bits)

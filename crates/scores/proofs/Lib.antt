@@ -1,4 +1,3 @@
-pub mod Box
 pub mod Region
 pub mod Accept
 pub mod Coincide

@@ -25,7 +25,7 @@ use Rattle.floats.specs.Calls.{Writes}
 use Rattle.floats.specs.Numbers.{noNan}
 use Rattle.floats.proofs.Numbers.{upward, upward-number, finite-number, plus-upward, square-upward, over-upward, count-upward, count-positive, is-finite, all-at, all-tab, zero-upward}
 use Rattle.floats.proofs.Written.{answered-done}
-use Rattle.scores.proofs.Box.{box-is, box-length}
+use Rattle.means.proofs.Box.{box-is, box-length}
 use Rattle.scores.proofs.Accept.{lays, lifts}
 
 pub fraction-upward : (counts : List ℕ) (tiles k : ℕ) → tileNumber tiles ≡ true → T (upward (fraction counts tiles k))

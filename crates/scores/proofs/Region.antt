@@ -1,4 +1,4 @@
--- The score of each cell of a region, as the cells are numbered in the plane; and the two calls' planes as such a region's.
+-- The two calls' planes as a region's whose cells get their scores.
 -- Assumes nothing.
 use Prim.Native.Nat.{ℕ, _+_, _*_, _/_, _%_, _<_, _≤_, min}
 use mathlib.Core.Path.{_≡_, sym, _∙_}
@@ -7,12 +7,11 @@ use mathlib.Core.List.{List}
 use native.Mathlib.Nat.{mul-le-mul-right}
 use native.Mathlib.Omega.{arith}
 use lib.Dec.{leb, ltb}
-use lib.ListN.{length, getD}
-use lib.Ieee.{Float, nan}
+use lib.ListN.{length}
+use lib.Ieee.{Float}
 use borrow.Author.Tests.{leb-true, ltb-true, le-leb, lt-ltb}
-use Rattle.base.specs.Counting.{pick}
-use Rattle.base.proofs.Bools.{and-left, and-right, and-both, pick-yes, same-test}
-use Rattle.base.proofs.Numbers.{row-of, col-of, row-lt, col-lt}
+use Rattle.base.proofs.Bools.{and-left, and-right, and-both, same-test}
+use Rattle.base.proofs.Numbers.{row-lt, col-lt}
 use Rattle.base.proofs.Tabled.{tab-ext}
 use Rattle.rules.specs.Tests.{boardSides, onBoard}
 use Rattle.rules.specs.Places.{cellOf}
@@ -22,22 +21,11 @@ use Rattle.rules.specs.declared.Offset.{Offset}
 use Rattle.rules.specs.declared.Span.{Span}
 use Rattle.checks.proofs.Sides.{board-cols}
 use Rattle.places.proofs.Indices.{spanRound, row-span, col-span}
-use Rattle.floats.proofs.Rows.{inside}
-use Rattle.scores.specs.Box.{termOf, scoreAt, regionScored, pastTargets, orderedSpan}
-use Rattle.scores.specs.Fits.{ScoresFit}
-use Rattle.scores.proofs.Box.{box-is}
+use Rattle.means.specs.Box.{termOf, scoreAt}
+use Rattle.means.proofs.Box.{box-is}
+use Rattle.scoring.specs.Region.{regionScored, pastTargets, ScoresFit}
+use Rattle.scores.specs.Ordered.{orderedSpan}
 use Rattle.scores.proofs.Accept.{Planes}
-
-abbrev pub scoredCell : Bool → List ℕ → ℕ → ℕ → Span → Span → List Float → ℕ → Float
-scoredCell squared counts tiles cols rs cs scores k =
-    pick (liftFalls rs cs (k / cols) (k % cols)) (scoreAt squared counts tiles cols (k / cols) (k % cols)) (getD scores k nan)
-
-pub cell-scored : (squared : Bool) (counts : List ℕ) (tiles cols : ℕ) (rs cs : Span) (scores : List Float) (r j : ℕ)
-    → rs .0 ≤ r → r < rs .1 → cs .0 + j < cs .1 → cs .1 ≤ cols
-    → scoreAt squared counts tiles cols r (cs .0 + j) ≡ scoredCell squared counts tiles cols rs cs scores (r * cols + (cs .0 + j))
-cell-scored squared counts tiles cols rs cs scores r j low high end ends =
-    let within : cs .0 + j < cols = omega arith in
-    rw (row-of r within, col-of r within) (sym (pick-yes _ _ _ (and-both _ _ (inside rs r low high) (inside cs (cs .0 + j) (omega arith) end))))
 
 -- tests of spans that say the same of every cell of the side
 pub past-falls : (side : ℕ) (s : Span) (x : ℕ) → x < side → inSpan (pastTargets side s) x ≡ pastTarget side s x

@@ -13,7 +13,7 @@ use Rattle.base.proofs.Bools.{and-left, and-right}
 use Rattle.base.proofs.Chain.{Ascends, none, more, Fails, lowest}
 use Rattle.rules.specs.Bounds.{COUNT, CELL, PLACE, NUMBER}
 use Rattle.rules.specs.Tests.{colourCount, noneAbove}
-use Rattle.rules.specs.Places.{spanChecks, boxChecks, extensionChecks, copyChecks}
+use Rattle.rules.specs.Places.{spanChecks, boxFits, boxChecks, extensionChecks, copyChecks}
 use Rattle.rules.specs.Sets.{setChecks, setsChecks}
 use Rattle.rules.specs.Tiles.{sampleChecks, roomCheck}
 use Rattle.rules.specs.Fit.{piecesChecks, placeChecks}
@@ -59,8 +59,8 @@ contains-lowest b w = by-order _ refl
 pub extension-lowest : (rows cols : ℕ) (o : Offset) (w : World) (k : ℕ) → Lowest (extensionChecks rows cols o w k accepted)
 extension-lowest rows cols o w k = by-order _ refl
 
-pub boxed-extension-lowest : (rows cols : ℕ) (o : Offset) (w : World) (k : ℕ) (a b : Bool) → Lowest (extensionChecks rows cols o w k (PLACE unless a or PLACE unless b or accepted))
-boxed-extension-lowest rows cols o w k a b = by-order _ refl
+pub boxed-extension-lowest : (rows cols : ℕ) (o : Offset) (w : World) (k : ℕ) (b : BoundingBox) → Lowest (extensionChecks rows cols o w k (PLACE unless boxFits b or accepted))
+boxed-extension-lowest rows cols o w k b = by-order _ refl
 
 pub copy-lowest : (plane : List ℕ) (rows cols : ℕ) (p : Pads) (target : List ℕ) → Lowest (copyChecks plane rows cols p target accepted)
 copy-lowest plane rows cols p target = by-order _ refl

@@ -4,31 +4,17 @@ use Prim.Native.Nat.{ℕ, _*_}
 use mathlib.Core.Path.{_≡_, refl}
 use mathlib.Core.Bool.{true}
 use mathlib.Core.List.{List}
-use native.Mathlib.Omega.{arith}
 use Rattle.base.specs.Refusal.{accepted, _unless_or_, refusal}
 use Rattle.base.proofs.Chain.{passed, _then_, stopped, went-on, numbered}
-use Rattle.rules.specs.Bounds.{maxWeight, LENGTH, CELL, PLACE}
-use Rattle.rules.specs.Tests.{boardSides, hasLength, noneAbove, onBoard}
-use Rattle.rules.specs.Places.{cellOf}
+use Rattle.rules.specs.Bounds.{maxWeight, LENGTH, CELL}
+use Rattle.rules.specs.Tests.{boardSides, hasLength, noneAbove}
 use Rattle.rules.specs.Fit.{placeChecks}
 use Rattle.rules.specs.Board.{weightChecks}
 use Rattle.rules.specs.declared.World.{World}
 use Rattle.rules.specs.declared.Offset.{Offset}
-use Rattle.checks.proofs.Sides.{board-rows, board-cols, long, none-above}
-use Rattle.places.proofs.Indices.{row-below, col-below}
-use Rattle.steps.specs.Near.{OnPlane, lightFrom, weightsChecks}
-
--- a plane in bounds, and the cell of a place that was not refused
-pub on-plane : (plane : List ℕ) (rows cols : ℕ) (w : World) (o : Offset) → boardSides rows cols ≡ true → hasLength plane (rows * cols) ≡ true
-    → onBoard rows cols w o ≡ true → OnPlane plane rows cols (cellOf w o)
-on-plane plane rows cols w o s h b =
-    record {
-      tall = board-rows rows cols s .1;
-      wide = board-cols rows cols s .1;
-      long = long plane (rows * cols) h;
-      down = row-below rows cols w o b;
-      across = col-below rows cols w o b;
-    }
+use Rattle.checks.proofs.Sides.{none-above}
+use Rattle.weights.specs.Shares.{lightFrom}
+use Rattle.steps.specs.Checks.{weightsChecks}
 
 module _ (weights : List ℕ) (rows cols : ℕ) where
   pub record Weighed : Type 0 where
@@ -52,7 +38,3 @@ module _ (weights : List ℕ) (rows cols : ℕ) where
         → m ≡ refusal (weightChecks weights rows cols w o)
     unfolding _then_ numbered
     weight-went-on n m e z q = went-on (weightsChecks weights rows cols) (placeChecks rows cols w o accepted) refl e z q
-
--- the number PLACE is not 0
-pub six : PLACE ≡ 0 → ⊥
-six e = omega arith

@@ -1,1 +1,1 @@
-pub mod Near
+pub mod Checks

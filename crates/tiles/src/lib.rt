@@ -92,7 +92,7 @@ fn sample_refusal(source: &[u8], rows: usize, cols: usize, count: u32) -> u8
     if !checks::colour_count(count) {
         return rules::COUNT;
     }
-    if !checks::no_byte_above(source, count) {
+    if !contents::no_byte_above(source, count) {
         return rules::CELL;
     }
     0

@@ -1,15 +1,13 @@
--- The grammar and the form on small inputs: one statement on one table, shown by evaluating the definitions. Each case is an input's bytes
--- and what it is: nothing but that it is bad, or its numbers.
+-- The grammar on small inputs: one statement on one table, shown by evaluating the definitions. Each case is an input's bytes and what it
+-- is: nothing but that it is bad, or its numbers.
 -- Assumes nothing.
 use Prim.Native.Nat.{ℕ}
 use mathlib.Core.Path.{_≡_, refl}
-use mathlib.Core.Bool.{Bool, true, false}
 use mathlib.Core.List.{List, [], _∷_, map}
 use Rattle.base.specs.Counting.{some, within}
 use Rattle.base.specs.Tables.{fold}
 use Rattle.words.specs.Words.{Text, bad, numbers, isBlank, withDigit, grows, after, reading, numbersIn}
 use Rattle.words.specs.Input.{inputText}
-use Rattle.words.specs.Form.{stepsIn, sidesUpTo, headFits, tailFits, isFormed}
 
 pub record Case : Type 0 where
   pub input : List ℕ
@@ -42,34 +40,3 @@ cases =
 pub texts-are : map (λ (c : Case). inputText (c .input)) cases ≡ map (λ (c : Case). c .is) cases
 unfolding some within fold isBlank withDigit grows after reading numbersIn inputText
 texts-are = refl
-
--- lists of numbers, and whether they are of the form: a sample of 1x2 with colours 1 and 1, a board of 1x1
-pub record Formed : Type 0 where
-  pub numbers : List ℕ
-  pub is : Bool
-
-abbrev forms : List Formed
-forms =
-    record { numbers = 1 ∷ 2 ∷ 1 ∷ 0 ∷ 1 ∷ 1 ∷ 1 ∷ 1 ∷ 1 ∷ []; is = true }
-    ∷ record { numbers = 1 ∷ 2 ∷ 31 ∷ 0 ∷ 1 ∷ 999 ∷ 1 ∷ 1 ∷ 1 ∷ []; is = true }
-    ∷ record { numbers = 1 ∷ 2 ∷ 1 ∷ 0 ∷ 1 ∷ 1 ∷ 1 ∷ 1 ∷ 1 ∷ 1 ∷ 0 ∷ 0 ∷ 1 ∷ 2 ∷ 0 ∷ 0 ∷ []; is = true }
-    -- nothing; a number short; an option 2; sides 0 and 17; board sides 0 and 33
-    ∷ record { numbers = []; is = false }
-    ∷ record { numbers = 1 ∷ 2 ∷ 1 ∷ 0 ∷ 1 ∷ 1 ∷ 1 ∷ 1 ∷ []; is = false }
-    ∷ record { numbers = 1 ∷ 2 ∷ 1 ∷ 2 ∷ 1 ∷ 1 ∷ 1 ∷ 1 ∷ 1 ∷ []; is = false }
-    ∷ record { numbers = 1 ∷ 2 ∷ 1 ∷ 0 ∷ 2 ∷ 1 ∷ 1 ∷ 1 ∷ 1 ∷ []; is = false }
-    ∷ record { numbers = 0 ∷ 2 ∷ 1 ∷ 0 ∷ 1 ∷ 1 ∷ 1 ∷ []; is = false }
-    ∷ record { numbers = 1 ∷ 17 ∷ 1 ∷ 0 ∷ 1 ∷ 1 ∷ 1 ∷ 1 ∷ 1 ∷ 1 ∷ 1 ∷ 1 ∷ 1 ∷ 1 ∷ 1 ∷ 1 ∷ 1 ∷ 1 ∷ 1 ∷ 1 ∷ 1 ∷ 1 ∷ 1 ∷ 1 ∷ []; is = false }
-    ∷ record { numbers = 1 ∷ 2 ∷ 1 ∷ 0 ∷ 1 ∷ 1 ∷ 1 ∷ 0 ∷ 1 ∷ []; is = false }
-    ∷ record { numbers = 1 ∷ 2 ∷ 1 ∷ 0 ∷ 1 ∷ 1 ∷ 1 ∷ 1 ∷ 33 ∷ []; is = false }
-    -- a step that starts with 3 or 0, a lay cut off, a lift cut off, a number over
-    ∷ record { numbers = 1 ∷ 2 ∷ 1 ∷ 0 ∷ 1 ∷ 1 ∷ 1 ∷ 1 ∷ 1 ∷ 3 ∷ 0 ∷ 0 ∷ 1 ∷ []; is = false }
-    ∷ record { numbers = 1 ∷ 2 ∷ 1 ∷ 0 ∷ 1 ∷ 1 ∷ 1 ∷ 1 ∷ 1 ∷ 0 ∷ []; is = false }
-    ∷ record { numbers = 1 ∷ 2 ∷ 1 ∷ 0 ∷ 1 ∷ 1 ∷ 1 ∷ 1 ∷ 1 ∷ 1 ∷ 0 ∷ 0 ∷ []; is = false }
-    ∷ record { numbers = 1 ∷ 2 ∷ 1 ∷ 0 ∷ 1 ∷ 1 ∷ 1 ∷ 1 ∷ 1 ∷ 2 ∷ 0 ∷ []; is = false }
-    ∷ record { numbers = 1 ∷ 2 ∷ 1 ∷ 0 ∷ 1 ∷ 1 ∷ 1 ∷ 1 ∷ 1 ∷ 1 ∷ 0 ∷ 0 ∷ 1 ∷ 2 ∷ []; is = false }
-    ∷ []
-
-pub forms-are : map (λ (c : Formed). isFormed (c .numbers)) forms ≡ map (λ (c : Formed). c .is) forms
-unfolding within stepsIn sidesUpTo headFits tailFits isFormed
-forms-are = refl

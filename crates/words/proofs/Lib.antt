@@ -1,5 +1,4 @@
 pub mod Reading
-pub mod Forming
 pub mod Meaning
 pub mod Coincide
 pub mod Cases

@@ -1,10 +1,6 @@
-// The input of the listing program: its bytes as numbers, and the numbers as a job.
-mod job;
+// The input of the listing program as text: its bytes as numbers.
 mod numbers;
 
-pub use job::form_of;
-pub use job::step_end;
-pub use numbers::parse;
 pub use numbers::read_input;
 
 // Document 01, "Listing program".
@@ -30,26 +26,4 @@ pub enum State {
 pub enum Found {
     Numbers(usize),
     Other,
-}
-
-pub const MAX_SAMPLE: u32 = 16;
-
-pub const MAX_BOARD: u32 = 32;
-
-pub struct Sides {
-    pub rows: usize,
-    pub cols: usize,
-}
-
-pub struct Setup {
-    pub sample: Sides,
-    pub count: u32,
-    pub rotations: bool,
-    pub reflections: bool,
-    pub board: Sides,
-}
-
-pub enum Form {
-    Whole(Setup),
-    Bad,
 }

@@ -1,5 +1,6 @@
 -- `boundary::listed` meets its contract: each case of the answer gives its number and its values. Assumes nothing.
-use Rattle.boundary.proofs.Back.{stored, then-set}
+use Rattle.slots.proofs.Storing.{then-set}
+use Rattle.boundary.proofs.Back.{stored}
 use Rattle.boundary.specs.Boundary.{listingNumber, listingLeft}
 use mathlib.Core.Path.{refl}
 use borrow.Author.Needs.{needs}

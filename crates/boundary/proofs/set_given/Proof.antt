@@ -1,5 +1,6 @@
 -- `boundary::set_given` meets its contract: each case of the answer gives its number and its values. Assumes nothing.
-use Rattle.boundary.proofs.Back.{stored, then-set}
+use Rattle.slots.proofs.Storing.{then-set}
+use Rattle.boundary.proofs.Back.{stored}
 use Rattle.boundary.specs.Boundary.{setNumber, setLeft}
 use mathlib.Core.Path.{refl}
 use borrow.Author.Needs.{needs}

@@ -1,5 +1,6 @@
 -- `boundary::told` meets its contract: each case of the answer gives its number and its values. Assumes nothing.
-use Rattle.boundary.proofs.Back.{stored, puts}
+use Rattle.slots.proofs.Storing.{puts}
+use Rattle.boundary.proofs.Back.{stored}
 use Rattle.boundary.specs.Boundary.{verdictNumber, verdictLeft}
 use mathlib.Core.Path.{refl}
 use borrow.Author.Needs.{needs}

@@ -1,5 +1,6 @@
 -- `desk::desk_fitting_colours` meets its contract: the answer by its definition, passed on. Assumes nothing.
-use Rattle.boundary.proofs.Back.{passed-on, world-is, offset-is}
+use Rattle.slots.proofs.Storing.{world-is, offset-is}
+use Rattle.boundary.proofs.Back.{passed-on}
 use Rattle.boundary.specs.Boundary.{listingNumber}
 use Rattle.desk.specs.Found.{coloursLeft}
 use mathlib.Core.Path.{_∙_, ap₂}

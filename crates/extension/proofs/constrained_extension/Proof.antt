@@ -8,14 +8,12 @@ use native.Mathlib.Omega.{arith}
 use Rattle.base.specs.Refusal.{Checks, accepted, _unless_or_, refusal}
 use Rattle.base.proofs.Chain.{refuse, pass, no-check, stopped, went-on, numbered, _then_}
 use Rattle.rules.specs.Bounds.{PLACE}
-use Rattle.rules.specs.Tests.{onWall}
 use Rattle.rules.specs.Places.{boxedExtension, extensionBy, extensionChecks, padsOf, boxedPads, boxFits}
 use Rattle.rules.specs.declared.World.{World}
 use Rattle.rules.specs.declared.Offset.{Offset}
 use Rattle.rules.specs.declared.BoundingBox.{BoundingBox}
 use Rattle.rules.specs.declared.ExtensionInfo.{ExtensionInfo}
 use Rattle.rules.specs.declared.ExtensionAnswer.the-variants.{Extension, Refused}
-use Rattle.places.proofs.Boxes.{unless-both}
 use Rattle.extension.specs.Given.{Reached, PadsIn}
 use Rattle.extension.proofs.Edges.{pads-low, boxed-low}
 use Rattle.extension.proofs.Answers.{extension-refused, extension-given, reached}
@@ -24,7 +22,7 @@ use Rattle.extension.proofs.constrained_extension.Tie as tie
 
 -- the checks of the box
 abbrev corners : BoundingBox → Checks
-corners b = PLACE unless onWall (b .min) or PLACE unless onWall (b .max) or accepted
+corners b = PLACE unless boxFits b or accepted
 
 module _ (rows cols : ℕ) (o : Offset) (w : World) (k : ℕ) (b : BoundingBox) where
   -- an exit before the box is asked, and one where it is
@@ -32,11 +30,10 @@ module _ (rows cols : ℕ) (o : Offset) (w : World) (k : ℕ) (b : BoundingBox) 
   unfolding boxedExtension _then_
   stops n e h = extension-refused n _ (stopped n (extensionChecks rows cols o w k accepted) (corners b) e h) h
 
-  asked : {n m : ℕ} → n ≡ refusal (extensionChecks rows cols o w k accepted) → n ≡ 0 → m ≡ refusal (PLACE unless boxFits b or accepted)
+  asked : {n m : ℕ} → n ≡ refusal (extensionChecks rows cols o w k accepted) → n ≡ 0 → m ≡ refusal (corners b)
       → m ≡ refusal (extensionChecks rows cols o w k (corners b))
   unfolding _then_ numbered
-  asked e z h =
-      went-on (extensionChecks rows cols o w k accepted) (corners b) refl e z (h ∙ unless-both PLACE (onWall (b .min)) (onWall (b .max)) accepted)
+  asked e z h = went-on (extensionChecks rows cols o w k accepted) (corners b) refl e z h
 
   cornered : {n : ℕ} {r : Bool} → n ≡ refusal (extensionChecks rows cols o w k accepted) → n ≡ 0 → r ≡ boxFits b → not r ≡ true
       → Refused PLACE ≡ boxedExtension rows cols o w k b

@@ -8,7 +8,8 @@ use Rattle.rules.specs.Grid.{flat, numberOf}
 use Rattle.rules.specs.Fit.{lists, placeChecks, listing}
 use Rattle.rules.specs.declared.Cell.{Cell}
 use Rattle.rules.specs.declared.Listing.the-variants.{Colours}
-use Rattle.fit.proofs.Accepted.{accepted-ready, pieces-stop, pieces-go, place-on}
+use Rattle.windows.proofs.Accepted.{accepted-ready}
+use Rattle.fit.proofs.Accepted.{pieces-stop, pieces-go, place-on}
 use Rattle.fit.proofs.Calls.{listing-refused, told}
 use borrow.Author.Needs.{needs}
 use Rattle.fit.proofs.compute_viable_tiles_at_position.Statement.{statement}

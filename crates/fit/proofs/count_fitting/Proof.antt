@@ -9,7 +9,8 @@ use Rattle.base.proofs.Chain.{refuse, pass, no-check}
 use Rattle.rules.specs.Bounds.{PLACE}
 use Rattle.rules.specs.Answers.{numberAnswer}
 use Rattle.rules.specs.Fit.{regionCount}
-use Rattle.fit.proofs.Accepted.{accepted-ready, pieces-stop, pieces-go, grid-on}
+use Rattle.windows.proofs.Accepted.{accepted-ready}
+use Rattle.fit.proofs.Accepted.{pieces-stop, pieces-go, grid-on}
 use Rattle.fit.proofs.Calls.{number-refused, told}
 use borrow.Author.Needs.{needs}
 use Rattle.fit.proofs.count_fitting.Statement.{statement}

@@ -1,5 +1,6 @@
 -- `harness::port_lift` meets its contract: the answer by its definition, passed on. Assumes nothing.
-use Rattle.boundary.proofs.Back.{numbered-at, world-is, offset-is}
+use Rattle.slots.proofs.Storing.{world-is, offset-is}
+use Rattle.boundary.proofs.Back.{numbered-at}
 use Rattle.boundary.specs.Boundary.{liftNumber}
 use mathlib.Core.Path.{_∙_}
 use Rattle.rules.specs.declared.World.{World}
@@ -7,7 +8,7 @@ use Rattle.rules.specs.declared.Offset.{Offset}
 use Rattle.base.specs.Refusal.{refusal}
 use Rattle.rules.specs.Answers.{liftAnswer}
 use Rattle.rules.specs.Board.{liftChecks, afterLift}
-use Rattle.board.specs.Calls.{board, job}
+use Rattle.planes.specs.Planes.{board, job}
 use borrow.Author.Needs.{needs}
 use Rattle.harness.proofs.port_lift.Statement.{statement}
 use Rattle.harness.proofs.port_lift.Tie as tie

@@ -1,6 +1,7 @@
 -- `harness_tiles::port_contains` meets its contract: the answer by its definition, passed on. Assumes nothing.
 use mathlib.Core.Path.{_∙_, ap₂}
-use Rattle.boundary.proofs.Back.{passed-on, world-is}
+use Rattle.slots.proofs.Storing.{world-is}
+use Rattle.boundary.proofs.Back.{passed-on}
 use Rattle.boundary.specs.Boundary.{verdictNumber, verdictLeft}
 use Rattle.rules.specs.Places.{boxContains}
 use Rattle.harness_tiles.proofs.Stored.{box-is}

@@ -6,8 +6,8 @@ use Rattle.rules.specs.Grid.{flat, numberOf}
 use Rattle.rules.specs.Board.{recounted, afterRecount}
 use Rattle.rules.specs.declared.Cell.{Cell}
 use Rattle.places.proofs.Indices.{placed}
-use Rattle.steps.proofs.Placing.{near-refused, near-passed, nearby}
-use Rattle.steps.proofs.Leaning.{on-plane, six}
+use Rattle.nearness.proofs.Placing.{near-refused, near-passed, nearby}
+use Rattle.nearness.proofs.Leaning.{on-plane, six}
 use Rattle.recount.proofs.Leaning.{planed, planes-stopped, planes-went-on}
 use borrow.Author.Needs.{needs}
 use Rattle.recount.proofs.recount_feasibility.Statement.{statement}

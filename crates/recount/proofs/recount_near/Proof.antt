@@ -3,8 +3,9 @@ use Prim.Native.Nat.{_+_, _-_}
 use mathlib.Core.Path.{_∙_}
 use native.Mathlib.Nat.{min-le-right}
 use native.Mathlib.Omega.{arith}
-use Rattle.steps.specs.Near.{recountedAt}
-use Rattle.steps.proofs.Nearby.{InNear, near-start, near-in, near-turn, near-end, recounted-far, recounted-is}
+use Rattle.recount.specs.Checks.{recountedAt}
+use Rattle.nearness.proofs.Nearby.{InNear, near-start, near-in, near-turn, near-end}
+use Rattle.recount.proofs.Recounts.{recounted-far, recounted-is}
 use borrow.Author.Needs.{needs}
 use Rattle.recount.proofs.recount_near.Statement.{statement}
 use Rattle.recount.proofs.recount_near.Tie as tie

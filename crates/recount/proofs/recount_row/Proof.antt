@@ -1,8 +1,8 @@
 -- `recount::recount_row` meets its contract. The loop's invariant is `RowUpTo`: the cells passed are recounted, the rest of the row is as it was. Assumes nothing.
 use Prim.Native.Nat.{_-_, _*_, _≤_}
 use native.Mathlib.Omega.{arith}
-use Rattle.steps.specs.Near.{recountedAt}
-use Rattle.steps.proofs.Rows.{RowUpTo, row-none, row-turn, row-done}
+use Rattle.recount.specs.Checks.{recountedAt}
+use Rattle.nearness.proofs.Rows.{RowUpTo, row-none, row-turn, row-done}
 use Rattle.recount.proofs.Recounts.{recounted-here}
 use borrow.Author.Needs.{needs}
 use Rattle.recount.proofs.recount_row.Statement.{statement}

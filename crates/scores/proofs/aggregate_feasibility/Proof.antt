@@ -2,7 +2,7 @@
 use mathlib.Core.Path.{refl, sym, _∙_}
 use native.Mathlib.Omega.{arith}
 use Rattle.floats.proofs.Written.{refused, done}
-use Rattle.scores.specs.Box.{orderedSpan}
+use Rattle.scores.specs.Ordered.{orderedSpan}
 use Rattle.scores.proofs.Accept.{Lifts, lifts}
 use Rattle.scores.proofs.Region.{lift-scored, scores-fit}
 use borrow.Author.Needs.{needs}

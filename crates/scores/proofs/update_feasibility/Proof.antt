@@ -7,7 +7,7 @@ use Rattle.rules.specs.Places.{cellOf}
 use Rattle.places.proofs.Indices.{spanRound, row-below, col-below}
 use Rattle.floats.proofs.Written.{refused, done}
 use Rattle.floats.proofs.Spanned.{never-refused, rows-round, cols-round}
-use Rattle.scores.specs.Box.{pastTargets}
+use Rattle.scoring.specs.Region.{pastTargets}
 use Rattle.scores.proofs.Accept.{Lays, lays}
 use Rattle.scores.proofs.Region.{lay-scored, scores-fit}
 use borrow.Author.Needs.{needs}

@@ -6,8 +6,9 @@ use Rattle.rules.specs.Grid.{flat, numberOf}
 use Rattle.rules.specs.Board.{lowered, afterLower}
 use Rattle.rules.specs.declared.Cell.{Cell}
 use Rattle.places.proofs.Indices.{placed}
-use Rattle.steps.proofs.Placing.{near-refused, near-passed, nearby}
-use Rattle.steps.proofs.Leaning.{on-plane, weighed, weight-stopped, weight-went-on, six}
+use Rattle.nearness.proofs.Placing.{near-refused, near-passed, nearby}
+use Rattle.nearness.proofs.Leaning.{on-plane, six}
+use Rattle.steps.proofs.Leaning.{weighed, weight-stopped, weight-went-on}
 use borrow.Author.Needs.{needs}
 use Rattle.steps.proofs.revert_adjacency_weights.Statement.{statement}
 use Rattle.steps.proofs.revert_adjacency_weights.Tie as tie

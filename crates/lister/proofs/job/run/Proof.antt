@@ -1,6 +1,6 @@
 -- `lister::job::run` meets its contract. Assumes nothing.
 use Rattle.lister.proofs.Telling.{ran-fresh}
-use Rattle.lister.specs.Printed.{jobWith}
+use Rattle.ending.specs.Ending.{jobWith}
 use borrow.Author.Needs.{needs}
 use Rattle.lister.proofs.job.run.Statement.{statement}
 use Rattle.lister.proofs.job.run.Tie as tie

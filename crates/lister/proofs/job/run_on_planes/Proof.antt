@@ -3,7 +3,7 @@ use mathlib.Core.Path.{sym}
 use native.Mathlib.Omega.{arith}
 use lib.ListN.{length-take}
 use Rattle.lister.proofs.Telling.{board-few, board-sides}
-use Rattle.lister.specs.Printed.{jobWith}
+use Rattle.ending.specs.Ending.{jobWith}
 use borrow.Author.Needs.{needs}
 use Rattle.lister.proofs.job.run_on_planes.Statement.{statement}
 use Rattle.lister.proofs.job.run_on_planes.Tie as tie

@@ -9,7 +9,7 @@ use borrow.Author.Needs.{needs}
 use lib.ListN.{length-map, length, take, drop}
 use Rattle.rules.specs.Bounds.{queueRoom}
 use Rattle.rules.specs.Forced.{queued, allOnWall, noPosition}
-use Rattle.queue.proofs.Places.{wall-turn, wall-end}
+use Rattle.queue.proofs.Wall.{wall-turn, wall-end}
 use Rattle.queue.proofs.refusals.queued_on_wall.Statement.{statement}
 use Rattle.queue.proofs.refusals.queued_on_wall.Tie as tie
 

@@ -1,0 +1,4 @@
+pub mod Forming
+pub mod Meaning
+pub mod Coincide
+pub mod Cases

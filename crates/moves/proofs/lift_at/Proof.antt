@@ -1,0 +1,54 @@
+-- `moves::lift_at` meets its contract: its three steps, joined. Assumes nothing.
+use native.Mathlib.Omega.{arith}
+use Rattle.rules.specs.Board.{lifted}
+use Rattle.windows.proofs.Accepted.{set-countable}
+use Rattle.moves.proofs.Plane.{in-plane}
+use borrow.Author.Needs.{needs}
+use Rattle.moves.proofs.lift_at.Statement.{statement}
+use Rattle.moves.proofs.lift_at.Tie as tie
+
+mul-k : tie.Need-mul-k
+mul-k c = record { fits = omega (arith, in-plane _ _ _ _ (c .before .before .before .before .before .pre .pieces)) }
+
+add-k : tie.Need-add-k
+add-k c = record { fits = omega (arith, in-plane _ _ _ _ (c .before .before .before .before .before .before .pre .pieces)) }
+
+mul-pieces : tie.Need-mul-pieces
+mul-pieces c = record { fits = omega (arith, in-plane _ _ _ _ (c .before .before .before .before .before .before .pre .pieces)) }
+
+slice-write-pieces : tie.Need-slice-write-pieces
+slice-write-pieces c = omega (arith, in-plane _ _ _ _ (c .before .before .before .before .before .before .pre .pieces))
+
+lower-near-requires : tie.Need-lower-near-requires
+lower-near-requires c κs = search needs
+
+recount-near-requires : tie.Need-recount-near-requires
+recount-near-requires c κs = (c .before .before .before .before .before .before .before .before .before .before .before .before .pre .counts, c .before .before .before .before .before .before .before .before .before .before .before .before .pre .near, set-countable _ _ _ _ _ (omega arith) (omega (arith, c .before .before .before .before .before .before .before .before .before .before .before .before .pre)) _ (c .before .before .before .before .before .before .before .before .before .before .before .before .pre .ready))
+
+same-length : tie.Need-same-length
+same-length c = search needs
+
+same-length-2 : tie.Need-same-length-2
+same-length-2 c = search needs
+
+same-length-3 : tie.Need-same-length-3
+same-length-3 c = search needs
+
+returns : tie.Need-returns
+unfolding lifted
+returns c = rw (c .before .before .before .before .before .before .before .lower-near .ensures, c .before .before .recount-near .ensures)
+
+pub lift-at-spec : {M : Type 1} → statement M
+lift-at-spec =
+    tie.close
+    (tie.spec
+    mul-k
+    add-k
+    mul-pieces
+    slice-write-pieces
+    lower-near-requires
+    recount-near-requires
+    same-length
+    same-length-2
+    same-length-3
+    returns)

@@ -1,0 +1,31 @@
+-- What a call on a plane leans on once the plane and the place have passed.
+-- Assumes nothing.
+use Prim.Native.Nat.{ℕ, _*_}
+use mathlib.Core.Path.{_≡_}
+use mathlib.Core.Bool.{true}
+use mathlib.Core.List.{List}
+use native.Mathlib.Omega.{arith}
+use Rattle.rules.specs.Bounds.{PLACE}
+use Rattle.rules.specs.Tests.{boardSides, hasLength, onBoard}
+use Rattle.rules.specs.Places.{cellOf}
+use Rattle.rules.specs.declared.World.{World}
+use Rattle.rules.specs.declared.Offset.{Offset}
+use Rattle.checks.proofs.Sides.{board-rows, board-cols, long}
+use Rattle.places.proofs.Indices.{row-below, col-below}
+use Rattle.nearness.specs.Near.{OnPlane}
+
+-- a plane in bounds, and the cell of a place that was not refused
+pub on-plane : (plane : List ℕ) (rows cols : ℕ) (w : World) (o : Offset) → boardSides rows cols ≡ true → hasLength plane (rows * cols) ≡ true
+    → onBoard rows cols w o ≡ true → OnPlane plane rows cols (cellOf w o)
+on-plane plane rows cols w o s h b =
+    record {
+      tall = board-rows rows cols s .1;
+      wide = board-cols rows cols s .1;
+      long = long plane (rows * cols) h;
+      down = row-below rows cols w o b;
+      across = col-below rows cols w o b;
+    }
+
+-- the number PLACE is not 0
+pub six : PLACE ≡ 0 → ⊥
+six e = omega arith

@@ -1,0 +1,50 @@
+-- What loops over the span of radius 2 round a cell lean on, and the spans that `near_spans` gives. The calls themselves are stated by
+-- document 01's definitions.
+use Prim.Native.Nat.{ℕ, _+_, _-_, _*_, _<_, _≤_, min}
+use mathlib.Core.Path.{_≡_}
+use mathlib.Core.List.{List}
+use lib.IntN.{_+ℤ_}
+use lib.ListN.{length}
+use Rattle.base.specs.Refusal.{accepted, refusal}
+use Rattle.rules.specs.Bounds.{maxBoardSide}
+use Rattle.rules.specs.Answers.{spanAnswer}
+use Rattle.rules.specs.Places.{spanOf}
+use Rattle.rules.specs.Fit.{placeChecks}
+use Rattle.rules.specs.declared.World.{World}
+use Rattle.rules.specs.declared.Offset.{Offset}
+use Rattle.rules.specs.declared.SpanAnswer.{SpanAnswer}
+use Rattle.rules.specs.declared.Cell.{Cell}
+use Rattle.rules.specs.declared.Span.{Span}
+
+-- a plane of a board in bounds, and a cell on it
+pub record OnPlane (plane : List ℕ) (rows cols : ℕ) (cell : Cell) : Type 0 where
+  pub tall : rows ≤ maxBoardSide
+  pub wide : cols ≤ maxBoardSide
+  pub long : length plane ≡ rows * cols
+  pub down : cell .0 < rows
+  pub across : cell .1 < cols
+
+-- the columns from..to of a row of such a plane
+pub record InRow (plane : List ℕ) (cols row from to : ℕ) : Type 0 where
+  pub ordered : from ≤ to
+  pub inside : to ≤ cols
+  pub held : row * cols + cols ≤ length plane
+  pub short : length plane ≤ 4096
+
+-- the spans of radius 2 round a cell, their ends clipped to the sides
+pub record Nearby (rows cols : ℕ) (cell : Cell) (down across : Span) : Type 0 where
+  pub top : down .0 ≡ cell .0 - 2
+  pub bottom : down .1 ≡ min (cell .0 + 3) rows
+  pub left : across .0 ≡ cell .1 - 2
+  pub right : across .1 ≡ min (cell .1 + 3) cols
+
+-- those spans of a place that has to lie on the board
+abbrev pub endClipped : ℕ → Span → Span
+endClipped side s = record { 0 = s .0; 1 = min (s .1) side }
+
+unfoldable pub nearSpans : ℕ → ℕ → World → Offset → SpanAnswer
+nearSpans rows cols w o =
+    spanAnswer
+    (refusal (placeChecks rows cols w o accepted))
+    (endClipped rows (spanOf (w .0 +ℤ o .0) 2))
+    (endClipped cols (spanOf (w .1 +ℤ o .1) 2))

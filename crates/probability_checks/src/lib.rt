@@ -1,0 +1,128 @@
+// The checks of the three calls on probabilities: of normalising, and of the product step and its reverse.
+ghost use mathlib.Core.Path.{_≡_};
+ghost use mathlib.Core.Bool.{_&&_};
+ghost use Rattle.base.specs.Counting.{within};
+ghost use Rattle.base.specs.Refusal.{refusal};
+ghost use Rattle.rules.specs.Bounds.{maxInfluenceSide};
+ghost use Rattle.rules.specs.Probabilities.{normaliseChecks, influenceChecks};
+ghost use Rattle.influence.specs.Step.{blockOf};
+ghost use Rattle.probability_checks.specs.Sizes.{sizeChecks};
+use rules::Offset;
+use rules::World;
+
+// The refusal of a normalising call, 0 where there is none. The place may lie off the board.
+pub fn normalise_refused(
+    plane: &[f64],
+    rows: usize,
+    cols: usize,
+    count: u32,
+    position: World,
+    offset: Offset,
+    out: &[f64],
+) -> u8
+    ensures { λ r. ⌜ r ≡ refusal (normaliseChecks (now (plane .entry)) rows cols count position offset (now (out .entry))) ⌝ }
+{
+    if !checks::board_sides(rows, cols) {
+        return rules::SHAPE;
+    }
+    if !checks::floats_have_length(plane, count as usize * (rows * cols)) {
+        return rules::LENGTH;
+    }
+    if !checks::floats_have_length(out, count as usize) {
+        return rules::LENGTH;
+    }
+    if !checks::colour_count(count) {
+        return rules::COUNT;
+    }
+    if !contents::all_numbers(plane) {
+        return rules::NUMBER;
+    }
+    if !places::on_wall(position) {
+        return rules::PLACE;
+    }
+    if !places::offset_fits(offset) {
+        return rules::PLACE;
+    }
+    0
+}
+
+fn influence_sides(brows: usize, bcols: usize) -> bool
+    ensures { λ r. ⌜ r ≡ (within 1 maxInfluenceSide brows && within 1 maxInfluenceSide bcols) ⌝ }
+{
+    if influence_side(brows) {
+        influence_side(bcols)
+    } else {
+        false
+    }
+}
+
+fn influence_side(side: usize) -> bool
+    ensures { λ r. ⌜ r ≡ within 1 maxInfluenceSide side ⌝ }
+{
+    if 1 <= side {
+        side <= rules::MAX_INFLUENCE_SIDE
+    } else {
+        false
+    }
+}
+
+fn sizes_refused(
+    plane: &[f64],
+    rows: usize,
+    cols: usize,
+    count: u32,
+    block: &[f64],
+    brows: usize,
+    bcols: usize,
+    radius: usize,
+) -> u8
+    ensures { λ r. ⌜ r ≡ refusal (sizeChecks (now (plane .entry)) rows cols count (blockOf brows bcols (now (block .entry))) radius) ⌝ }
+{
+    if !checks::board_sides(rows, cols) {
+        return rules::SHAPE;
+    }
+    if !influence_sides(brows, bcols) {
+        return rules::SHAPE;
+    }
+    if radius > rules::MAX_RADIUS {
+        return rules::SHAPE;
+    }
+    if !checks::floats_have_length(plane, count as usize * (rows * cols)) {
+        return rules::LENGTH;
+    }
+    if !checks::floats_have_length(block, count as usize * (brows * bcols)) {
+        return rules::LENGTH;
+    }
+    if !checks::colour_count(count) {
+        return rules::COUNT;
+    }
+    0
+}
+
+// The refusal of a product step or its reverse, 0 where there is none.
+pub fn step_refused(
+    plane: &[f64],
+    rows: usize,
+    cols: usize,
+    count: u32,
+    block: &[f64],
+    brows: usize,
+    bcols: usize,
+    position: World,
+    offset: Offset,
+    radius: usize,
+) -> u8
+    ensures { λ r. ⌜ r ≡ refusal (influenceChecks (now (plane .entry)) rows cols count (blockOf brows bcols (now (block .entry))) position offset radius) ⌝ }
+{
+    let refused = sizes_refused(plane, rows, cols, count, block, brows, bcols, radius);
+    if refused != 0 {
+        return refused;
+    }
+    if !contents::all_finite(plane) {
+        return rules::NUMBER;
+    }
+    if !contents::all_finite(block) {
+        return rules::NUMBER;
+    }
+    places::place_refused(rows, cols, position, offset)
+}

@@ -1,0 +1,77 @@
+-- `spans::span_along` meets its contract: each sum fits 64 bits, and stands for the definition's.
+-- Assumes nothing.
+use borrow.Author.Needs.{needs}
+use Prim.Native.Nat.{ℕ, _^_}
+use native.Mathlib.Omega.{arith}
+use mathlib.Core.Path.{_≡_, _∙_, ap}
+use lib.IntN.{pos, _+ℤ_}
+use mir.Syntax.{w64}
+use Rattle.base.specs.Whole.{clip}
+use Rattle.rules.specs.Places.{spanOf}
+use Rattle.rules.specs.declared.Span.{Span}
+use Rattle.places.proofs.Wide.{Reads, wide, widened, cast-fits, counted, add-fits, sub-fits, added, subbed, addB}
+use Rattle.spans.proofs.span_along.Statement.{statement}
+use Rattle.spans.proofs.span_along.Tie as tie
+
+module _ (c : tie.Start) where
+  index-is : Reads w64 (addB w64 (wide (c .args .coordinate)) (wide (c .args .offset))) (c .args .coordinate +ℤ c .args .offset) (2 ^ 32)
+  index-is = added (widened (c .fits .coordinate)) (widened (c .fits .offset)) tt
+
+  reach-is : Reads w64 (c .args .radius) (pos (c .args .radius)) 64
+  reach-is = counted w64 (omega arith) tt
+
+  one-is : Reads w64 1 (pos 1) 2
+  one-is = counted w64 (omega arith) tt
+
+cast-index : tie.Need-cast-index
+cast-index c = cast-fits (c .fits .coordinate)
+
+cast-index-2 : tie.Need-cast-index-2
+cast-index-2 c = cast-fits (c .fits .offset)
+
+add-index : tie.Need-add-index
+add-index c = add-fits (widened (c .fits .coordinate)) (widened (c .fits .offset)) tt
+
+cast-reach : tie.Need-cast-reach
+cast-reach c = search needs
+
+sub-clip-to : tie.Need-sub-clip-to
+sub-clip-to c = sub-fits (index-is c) (reach-is c) tt
+
+clip-to-requires : tie.Need-clip-to-requires
+clip-to-requires c κs = search needs
+
+add-clip-to : tie.Need-add-clip-to
+add-clip-to c = add-fits (index-is (c .before)) (reach-is (c .before)) tt
+
+add-clip-to-2 : tie.Need-add-clip-to-2
+add-clip-to-2 c = add-fits (added (index-is (c .before)) (reach-is (c .before)) tt) (one-is (c .before)) tt
+
+clip-to-requires-2 : tie.Need-clip-to-requires-2
+clip-to-requires-2 c κs = search needs
+
+both : {a b x y : ℕ} → a ≡ x → b ≡ y → _≡_ {A = Span} (record { 0 = a; 1 = b }) (record { 0 = x; 1 = y })
+both p q = rw (p, q)
+
+returns : tie.Need-returns
+unfolding spanOf
+returns c =
+    let s = c .before .before in
+    both
+    (c .before .clip-to .ensures ∙ ap clip (subbed (index-is s) (reach-is s) tt .is))
+    (c .clip-to2 .ensures ∙ ap clip (added (added (index-is s) (reach-is s) tt) (one-is s) tt .is))
+
+pub span-along-spec : {M : Type 1} → statement M
+span-along-spec =
+    tie.close
+    (tie.spec
+    cast-index
+    cast-index-2
+    add-index
+    cast-reach
+    sub-clip-to
+    clip-to-requires
+    add-clip-to
+    add-clip-to-2
+    clip-to-requires-2
+    returns)

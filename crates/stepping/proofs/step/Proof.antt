@@ -1,0 +1,42 @@
+-- `stepping::step` meets its contract. Assumes nothing.
+use Rattle.stepping.proofs.Walking.{stepped}
+use borrow.Author.Needs.{needs}
+use Rattle.stepping.proofs.step.Statement.{statement}
+use Rattle.stepping.proofs.step.Tie as tie
+
+take-step-requires : tie.Need-take-step-requires
+take-step-requires c κs = search needs
+
+wide-requires : tie.Need-wide-requires
+wide-requires c κs = search needs
+
+put-number-line-requires : tie.Need-put-number-line-requires
+put-number-line-requires c κs = search needs
+
+same-length : tie.Need-same-length
+same-length c = search needs
+
+same-length-2 : tie.Need-same-length-2
+same-length-2 c = search needs
+
+same-length-3 : tie.Need-same-length-3
+same-length-3 c = search needs
+
+same-length-4 : tie.Need-same-length-4
+same-length-4 c = search needs
+
+returns : tie.Need-returns
+returns c = stepped _ _ _ (c .before .before .before .before .before .before .before .before .before .before .before .take-step .ensures) (c .before .before .before .wide .ensures) (c .before .before .put-number-line .ensures)
+
+pub step-spec : {M : Type 1} → statement M
+step-spec =
+    tie.close
+    (tie.spec
+    take-step-requires
+    wide-requires
+    put-number-line-requires
+    same-length
+    same-length-2
+    same-length-3
+    same-length-4
+    returns)
