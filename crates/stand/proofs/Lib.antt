@@ -5,4 +5,3 @@ pub mod Calls
 pub mod Stands
 pub mod Order
 pub mod Never
-pub mod Lowest

@@ -19,14 +19,15 @@ use Rattle.base.proofs.Bools.{never, by-test, pick-yes, pick-no}
 use Rattle.base.proofs.Chain.{has-new}
 use Rattle.base.proofs.Numbers.{within-low}
 use Rattle.base.proofs.Tabled.{fold-append}
-use Rattle.rules.specs.Bounds.{bare}
+use Rattle.rules.specs.Bounds.{maxColours, bare}
+use Rattle.rules.specs.Tests.{piecesStored}
 use Rattle.rules.specs.Grid.{laidOn}
-use Rattle.rules.specs.Board.{Job, Board, shapeOf, cellIn, boardOf, afterLay, afterLift}
+use Rattle.rules.specs.Board.{Board, boardOf, afterLay, afterLift}
 use Rattle.rules.specs.declared.World.{World}
 use Rattle.rules.specs.Places.{samePlace}
-use Rattle.stand.specs.Runs.{Call, lay, lift, fresh, refusalOf, step, run, says, placeOf, elsewhere}
+use Rattle.stand.specs.Runs.{Panel, shapeOn, cellAt, fresh, Call, lay, lift, placeOf, countOf, jobOf, refusalOf, step, run, says, Naming, elsewhere}
 use Rattle.stand.proofs.Walls.{On, cell-in, same-place, same-cell}
-use Rattle.stand.proofs.Calls.{InBounds, cellBy, Taken, either, accepts, other, taken, Good, ofPieces, moved, nothing, fresh-good, moved-good}
+use Rattle.stand.proofs.Calls.{InBounds, Named, cellBy, Taken, either, accepts, other, taken, Good, ofPieces, put-stored, moved, nothing, fresh-good, moved-good, moved-stored}
 use Rattle.stand.proofs.Stands.{movedBy, run-good, run-fresh, says-all}
 
 -- two calls that are accepted together leave what corresponds
@@ -39,18 +40,22 @@ together f (suc n) zero to from new old = absurd (out (from refl))
     out e = omega arith
 together f (suc n) (suc m) to from new old = old
 
-module _ (j : Job) where
+module _ (j : Panel) where
   -- making a bare cell bare changes nothing
   bare-stays : (p : List ℕ) (k : ℕ) → Good j p → k < j .rows * j .cols → laidOn p k ≡ false → set p k bare ≡ p
   bare-stays p k good k< off =
-      let low : 1 ≤ getD p k 0 = within-low 1 (j .count + 1) (getD p k 0) (good .stored k k<) in
+      let low : 1 ≤ getD p k 0 = within-low 1 (maxColours + 1) (getD p k 0) (good .coloured k k<) in
       let high : getD p k 0 ≤ 1 = ltb-false 1 (getD p k 0) off in
       let same : bare ≡ getD p k 0 = omega arith in
       ap (set p k) same ∙ set-getD p k 0
 
-  module _ (w : World) (job : InBounds j) (on : On j w) where
+  module _ (w : World) (count : ℕ) (panel : InBounds j) (named : Named j count) (on : On j w) where
     abbrev k : ℕ
-    k = cellIn j w
+    k = cellAt j w
+
+    -- all pieces have colours of the count that the calls name
+    abbrev Stored : List ℕ → Type 0
+    Stored q = piecesStored q count ≡ true
 
     -- the pieces with the cell of w bare
     abbrev without : List ℕ → List ℕ
@@ -61,66 +66,84 @@ module _ (j : Job) where
     same-call q c e = either {new = says j q c} {old = q} (λ r. without r ≡ without q) (refusalOf j (ofPieces j q) c) (λ z. at c e) refl
       where
         at : (c : Call) → samePlace (placeOf c) w ≡ true → without (says j q c) ≡ without q
-        at (lay v colour) e = rw (same-cell j v w e) (set-set q k (colour + 1) bare)
-        at (lift v) e = rw (same-cell j v w e) (set-set q k bare bare)
+        at (lay n v colour) e = rw (same-cell j v w e) (set-set q k (colour + 1) bare)
+        at (lift n v) e = rw (same-cell j v w e) (set-set q k bare bare)
 
     -- a call on another cell is accepted on both or on neither
-    apart : (q r : List ℕ) (c : Call) → Good j r → samePlace (placeOf c) w ≡ false → Taken j q c → (cellBy j c ≢ k → getD r (cellBy j c) 0 ≡ getD q (cellBy j c) 0)
+    apart : (q r : List ℕ) (c : Call) → Good j r → piecesStored r (countOf c) ≡ true → samePlace (placeOf c) w ≡ false → Taken j q c → (cellBy j c ≢ k → getD r (cellBy j c) 0 ≡ getD q (cellBy j c) 0)
         → (refusalOf j (ofPieces j r) c ≡ 0) × (cellBy j c ≢ k)
-    apart q r c good e t same =
+    apart q r c good s e t same =
         let ne : cellBy j c ≢ k = λ z. never (samePlace (placeOf c) w) (same-place j (placeOf c) w (t .on) on z) e in
-        (taken j r c good (other j q r c (same ne) t), ne)
+        (taken j r c good (other j q r c s (same ne) t), ne)
 
-    other-call : (q : List ℕ) (c : Call) → Good j q → Good j (without q) → samePlace (placeOf c) w ≡ false
+    other-call : (q : List ℕ) (c : Call) → Good j q → Good j (without q) → Stored q → countOf c ≡ count → samePlace (placeOf c) w ≡ false
         → moved j (without q) c ≡ without (moved j q c)
     unfolding boardOf
-    other-call q c good good′ e =
+    other-call q c good good′ s n e =
         together without (refusalOf j (ofPieces j q) c) (refusalOf j (ofPieces j (without q)) c) {a = says j q c} {b = q} {c = says j (without q) c} {d = without q}
-        (λ z. apart q (without q) c good′ e (accepts j (ofPieces j q) c z) (λ ne. getD-set-other q k (cellBy j c) bare 0 ne) .0)
-        (λ z. apart (without q) q c good e (accepts j (ofPieces j (without q)) c z) (λ ne. sym (getD-set-other q k (cellBy j c) bare 0 ne)) .0)
-        (λ z. at c (apart q (without q) c good′ e (accepts j (ofPieces j q) c z) (λ ne. getD-set-other q k (cellBy j c) bare 0 ne) .1))
+        (λ z. apart q (without q) c good′ bare-stored e (accepts j (ofPieces j q) c z) (λ ne. getD-set-other q k (cellBy j c) bare 0 ne) .0)
+        (λ z. apart (without q) q c good here e (accepts j (ofPieces j (without q)) c z) (λ ne. sym (getD-set-other q k (cellBy j c) bare 0 ne)) .0)
+        (λ z. at c (apart q (without q) c good′ bare-stored e (accepts j (ofPieces j q) c z) (λ ne. getD-set-other q k (cellBy j c) bare 0 ne) .1))
         refl
       where
+        here : piecesStored q (countOf c) ≡ true
+        here = rw n s
+
+        bare-stored : piecesStored (without q) (countOf c) ≡ true
+        bare-stored = put-stored q (countOf c) k bare here (omega arith) (omega arith)
+
         at : (c : Call) → cellBy j c ≢ k → says j (without q) c ≡ without (says j q c)
-        at (lay v colour) ne = set-comm q k (cellIn j v) bare (colour + 1) (λ z. ne (sym z))
-        at (lift v) ne = set-comm q k (cellIn j v) bare bare (λ z. ne (sym z))
+        at (lay n v colour) ne = set-comm q k (cellAt j v) bare (colour + 1) (λ z. ne (sym z))
+        at (lift n v) ne = set-comm q k (cellAt j v) bare bare (λ z. ne (sym z))
+
+    -- the pieces keep colours of the count
+    keeps : (q : List ℕ) (c : Call) → Stored q → countOf c ≡ count → Stored (moved j q c)
+    keeps q c s n = subst (λ (m : ℕ). piecesStored (moved j q c) m ≡ true) n (moved-stored j q c (rw n s))
+
+    keep-all : (q : List ℕ) (calls : List Call) → Stored q → Naming count calls → Stored (movedBy j q calls)
+    unfolding fold
+    keep-all q [] s h = s
+    keep-all q (c ∷ calls) s (n, h) = keep-all (moved j q c) calls (keeps q c s n) h
 
     -- the two runs side by side
-    beside : (q : List ℕ) (calls : List Call) → Good j q → Good j (without q) → movedBy j (without q) (elsewhere w calls) ≡ without (movedBy j q calls)
+    beside : (q : List ℕ) (calls : List Call) → Good j q → Good j (without q) → Stored q → Naming count calls
+        → movedBy j (without q) (elsewhere w calls) ≡ without (movedBy j q calls)
     unfolding elsewhere fold
-    beside q [] good good′ = refl
-    beside q (c ∷ calls) good good′ =
+    beside q [] good good′ s h = refl
+    beside q (c ∷ calls) good good′ s (n, h) =
         by-test (samePlace (placeOf c) w)
         (λ e.
         ap (movedBy j (without q)) (pick-yes (samePlace (placeOf c) w) (elsewhere w calls) (c ∷ elsewhere w calls) e)
         ∙ ap (λ (r : List ℕ). movedBy j r (elsewhere w calls)) (sym (same-call q c e))
-        ∙ beside (moved j q c) calls (moved-good j q c good) (subst (Good j) (sym (same-call q c e)) good′))
+        ∙ beside (moved j q c) calls (moved-good j q c good) (subst (Good j) (sym (same-call q c e)) good′) (keeps q c s n) h)
         (λ e.
-        let step′ = other-call q c good good′ e in
+        let step′ = other-call q c good good′ s n e in
         ap (movedBy j (without q)) (pick-no (samePlace (placeOf c) w) (elsewhere w calls) (c ∷ elsewhere w calls) e)
         ∙ ap (λ (r : List ℕ). movedBy j r (elsewhere w calls)) step′
-        ∙ beside (moved j q c) calls (moved-good j q c good) (subst (Good j) step′ (moved-good j (without q) c good′)))
+        ∙ beside (moved j q c) calls (moved-good j q c good) (subst (Good j) step′ (moved-good j (without q) c good′)) (keeps q c s n) h)
 
     -- after a lift the cell is bare, whether it was taken or there was nothing to lift
-    last-lift : (q : List ℕ) → Good j q → moved j q (lift w) ≡ without q
-    last-lift q good =
+    last-lift : (q : List ℕ) → Good j q → Stored q → moved j q (lift count w) ≡ without q
+    last-lift q good s =
         by-test (laidOn q k)
-        (λ laid. has-new _ (without q) q (taken j q (lift w) good (record { job = job; on = on; own = (laid, tt) })))
-        (λ off. either {new = without q} {old = q} (λ r. r ≡ without q) (refusalOf j (ofPieces j q) (lift w)) (λ z. refl) (sym (bare-stays q k good (cell-in j on) off)))
+        (λ laid. has-new _ (without q) q (taken j q (lift count w) good (record { panel = panel; named = named; stored = s; on = on; own = (laid, tt) })))
+        (λ off. either {new = without q} {old = q} (λ r. r ≡ without q) (refusalOf j (ofPieces j q) (lift count w)) (λ z. refl) (sym (bare-stays q k good (cell-in j on) off)))
 
   -- "A piece is laid on the plan and later lifted": the plan is as if that piece had never lain there. `before`, `between` and `after` are any
-  -- calls; those between that name the piece's own place (a second lay there, an earlier lift) go with it.
-  pub as-if-never : (before between after : List Call) (w : World) (colour : ℕ) → refusalOf j (run j (fresh j) before) (lay w colour) ≡ 0
-      → run j (fresh j) (before ++ lay w colour ∷ between ++ lift w ∷ after) ≡ run j (fresh j) (before ++ elsewhere w between ++ after)
+  -- calls; those between that name the piece's own place (a second lay there, an earlier lift) go with it. While the piece stands the calls
+  -- name the number of colours that it was laid with: one that names fewer may be refused for the piece's sake.
+  pub as-if-never : (before between after : List Call) (w : World) (count colour : ℕ) → refusalOf j (run j (fresh j) before) (lay count w colour) ≡ 0
+      → Naming count between
+      → run j (fresh j) (before ++ lay count w colour ∷ between ++ lift count w ∷ after) ≡ run j (fresh j) (before ++ elsewhere w between ++ after)
   unfolding boardOf fold
-  as-if-never before between after w colour lays =
-      run-fresh j (before ++ lay w colour ∷ between ++ lift w ∷ after)
+  as-if-never before between after w count colour lays names =
+      run-fresh j (before ++ lay count w colour ∷ between ++ lift count w ∷ after)
       ∙ ap (ofPieces j)
-      (fold-append (moved j) (nothing j) (before ++ lay w colour ∷ between) (lift w ∷ after)
+      (fold-append (moved j) (nothing j) (before ++ lay count w colour ∷ between) (lift count w ∷ after)
       ∙ ap (λ (r : List ℕ). movedBy j r after)
-      (ap (λ (r : List ℕ). moved j r (lift w)) (fold-append (moved j) (nothing j) before (lay w colour ∷ between))
-      ∙ last-lift w (t .job) (t .on) (movedBy j (moved j p (lay w colour)) between) (run-good j _ between (moved-good j p (lay w colour) good))
-      ∙ sym (beside w (t .job) (t .on) (moved j p (lay w colour)) between (moved-good j p (lay w colour) good) (subst (Good j) (sym back) good))
+      (ap (λ (r : List ℕ). moved j r (lift count w)) (fold-append (moved j) (nothing j) before (lay count w colour ∷ between))
+      ∙ last-lift w count (t .panel) (t .named) (t .on) (movedBy j q between) (run-good j q between good′) (keep-all w count (t .panel) (t .named) (t .on) q between kept names)
+      ∙ sym (beside w count (t .panel) (t .named) (t .on) q between good′ (subst (Good j) (sym back) good) kept names)
       ∙ ap (λ (r : List ℕ). movedBy j r (elsewhere w between)) back
       ∙ sym (fold-append (moved j) (nothing j) before (elsewhere w between)))
       ∙ sym (fold-append (moved j) (nothing j) (before ++ elsewhere w between) after))
@@ -132,29 +155,39 @@ module _ (j : Job) where
       good : Good j p
       good = run-good j (nothing j) before (fresh-good j)
 
-      lays′ : refusalOf j (ofPieces j p) (lay w colour) ≡ 0
-      lays′ = ap (λ (b : Board). refusalOf j b (lay w colour)) (sym (run-fresh j before)) ∙ lays
+      lays′ : refusalOf j (ofPieces j p) (lay count w colour) ≡ 0
+      lays′ = ap (λ (b : Board). refusalOf j b (lay count w colour)) (sym (run-fresh j before)) ∙ lays
 
-      t : Taken j p (lay w colour)
-      t = accepts j (ofPieces j p) (lay w colour) lays′
+      t : Taken j p (lay count w colour)
+      t = accepts j (ofPieces j p) (lay count w colour) lays′
 
-      back : set (moved j p (lay w colour)) (cellIn j w) bare ≡ p
+      -- the pieces with the one that is laid
+      q : List ℕ
+      q = moved j p (lay count w colour)
+
+      good′ : Good j q
+      good′ = moved-good j p (lay count w colour) good
+
+      kept : piecesStored q count ≡ true
+      kept = moved-stored j p (lay count w colour) (t .stored)
+
+      back : set q (cellAt j w) bare ≡ p
       back =
-          ap (λ (r : List ℕ). set r (cellIn j w) bare) (has-new _ (says j p (lay w colour)) p lays′)
-          ∙ set-set p (cellIn j w) (colour + 1) bare
-          ∙ bare-stays p (cellIn j w) good (cell-in j (t .on)) (not-true _ (t .own .1 .0))
+          ap (λ (r : List ℕ). set r (cellAt j w) bare) (has-new _ (says j p (lay count w colour)) p lays′)
+          ∙ set-set p (cellAt j w) (colour + 1) bare
+          ∙ bare-stays p (cellAt j w) good (cell-in j (t .on)) (not-true _ (t .own .1 .0))
 
   -- a piece laid and lifted at once leaves the very board that was there
-  pub lifted-at-once : (calls : List Call) (w : World) (colour : ℕ) → refusalOf j (run j (fresh j) calls) (lay w colour) ≡ 0
-      → afterLift j (afterLay j (run j (fresh j) calls) w colour) w ≡ run j (fresh j) calls
+  pub lifted-at-once : (calls : List Call) (w : World) (count colour : ℕ) → refusalOf j (run j (fresh j) calls) (lay count w colour) ≡ 0
+      → afterLift (jobOf j count) (afterLay (jobOf j count) (run j (fresh j) calls) w colour) w ≡ run j (fresh j) calls
   unfolding run fold elsewhere
-  lifted-at-once calls w colour lays =
+  lifted-at-once calls w count colour lays =
       sym
-      (fold-append (step j) (fresh j) (calls ++ lay w colour ∷ []) (lift w ∷ [])
-      ∙ ap (λ (b : Board). afterLift j b w) (fold-append (step j) (fresh j) calls (lay w colour ∷ [])))
-      ∙ as-if-never calls [] [] w colour lays
+      (fold-append (step j) (fresh j) (calls ++ lay count w colour ∷ []) (lift count w ∷ [])
+      ∙ ap (λ (b : Board). afterLift (jobOf j count) b w) (fold-append (step j) (fresh j) calls (lay count w colour ∷ [])))
+      ∙ as-if-never calls [] [] w count colour lays tt
       ∙ ap (run j (fresh j)) (append-nil (calls ++ []) ∙ append-nil calls)
 
   -- whatever was laid and lifted on the way, the board depends on the standing pieces alone
   pub same-pieces : (some others : List Call) → run j (fresh j) some .pieces ≡ run j (fresh j) others .pieces → run j (fresh j) some ≡ run j (fresh j) others
-  same-pieces some others e = says-all j some ∙ ap (boardOf (shapeOf j) (j .tiles)) e ∙ sym (says-all j others)
+  same-pieces some others e = says-all j some ∙ ap (boardOf (shapeOn j) (j .tiles)) e ∙ sym (says-all j others)

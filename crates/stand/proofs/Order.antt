@@ -1,5 +1,6 @@
 -- "So the board equals one where only the standing pieces were laid, in any order": for any run, and any order of the pieces that stand after
--- it, each of their lays from a fresh board is accepted, and they leave the board of the run.
+-- it, laid on a fresh board by the rule of lay they leave the board of the run (any-order); and so they do by the call, each lay accepted, if
+-- all name the largest number of colours (any-order-laid), or any number that the tiles and the pieces allow (any-order-named).
 -- Laid row by row they leave the plane bit by bit; two neighbours in the list lie on two cells, so they can change places. Assumes nothing.
 use Prim.Native.Nat.{ℕ, zero, suc, _+_, _*_, _<_, _≤_}
 use mathlib.Core.Path.{_≡_, refl, sym, _∙_, ap, subst}
@@ -17,23 +18,25 @@ use Rattle.base.specs.Counting.{pick}
 use Rattle.base.specs.Tables.{tab, those, fold}
 use Rattle.base.proofs.Bools.{never}
 use Rattle.base.proofs.Chain.{has-new}
+use Rattle.base.proofs.Counted.{every-is, every-at}
 use Rattle.base.proofs.Numbers.{within-low, within-high, within-is}
 use Rattle.base.proofs.Tabled.{length-tab, getD-tab, is-tab}
 use Rattle.base.proofs.Swept.{swept, swept-none, swept-above, swept-turn, swept-skip, swept-all}
-use Rattle.rules.specs.Bounds.{bare}
+use Rattle.rules.specs.Bounds.{maxColours, bare}
+use Rattle.rules.specs.Tests.{colourCount, noneAbove, piecesStored, pieceStored}
 use Rattle.rules.specs.Grid.{laidOn, colourOn}
-use Rattle.rules.specs.Board.{Job, Board, cellIn}
-use Rattle.stand.specs.Runs.{Call, lay, fresh, refusalOf, step, run, acceptedIn, says, Piece, wallOf, standing, Reordered, none, keep, swap, twice, lays}
+use Rattle.rules.specs.Board.{Board}
+use Rattle.stand.specs.Runs.{Panel, cellAt, fresh, Call, lay, refusalOf, step, run, acceptedIn, says, Piece, wallOf, standing, Reordered, none, keep, swap, twice, laidAll, lays}
 use Rattle.stand.proofs.Walls.{cell-in, sides-in, wall-on, wall-cell}
-use Rattle.stand.proofs.Calls.{InBounds, Taken, other, taken, Good, ofPieces, step-is, nothing, fresh-good, says-good}
+use Rattle.stand.proofs.Calls.{InBounds, Named, Taken, other, taken, Good, ofPieces, laid-of, step-is, nothing, fresh-good, says-good, says-stored}
 use Rattle.stand.proofs.Stands.{fresh-of, says-all, pieces-good}
 
-abbrev laying : Piece → Call
-laying x = lay (x .place) (x .colour)
+module _ (j : Panel) (count : ℕ) where
+  abbrev laying : Piece → Call
+  laying x = lay count (x .place) (x .colour)
 
-module _ (j : Job) where
   abbrev cell : Piece → ℕ
-  cell x = cellIn j (x .place)
+  cell x = cellAt j (x .place)
 
   -- each of these lays is taken, from the pieces q on, and they leave the pieces r
   abbrev Lays : List ℕ → List Piece → List ℕ → Type 0
@@ -44,6 +47,19 @@ module _ (j : Job) where
   then-lays q [] r ys s e l = subst (λ (m : List ℕ). Lays m ys s) (sym e) l
   then-lays q (x ∷ xs) r ys s (t, k) l = (t, then-lays (says j q (laying x)) xs r ys s k l)
 
+  -- the lays leave colours of the count that they name
+  lays-stored : (q : List ℕ) (xs : List Piece) (r : List ℕ) → Lays q xs r → piecesStored q count ≡ true → piecesStored r count ≡ true
+  lays-stored q [] r e s = subst (λ (m : List ℕ). piecesStored m count ≡ true) e s
+  lays-stored q (x ∷ xs) r (t, l) s = lays-stored (says j q (laying x)) xs r l (says-stored j q (laying x) t)
+
+  nothing-stored : piecesStored (nothing j) count ≡ true
+  unfolding piecesStored
+  nothing-stored =
+      every-is (pieceStored (nothing j) count) (length (nothing j))
+      (λ k k<.
+      rw (getD-tab (j .rows * j .cols) (λ i. bare) k 0 (omega (arith, length-tab (j .rows * j .cols) (λ i. bare))))
+      (within-is 1 (count + 1) 1 (omega arith) (omega arith)))
+
   -- ---- the lays in another order
 
   -- two lays that are taken one after the other are on two cells
@@ -51,7 +67,7 @@ module _ (j : Job) where
   two-cells q x y good tx ty e =
       let here : getD (says j q (laying x)) (cell y) 0 ≡ x .colour + 1 =
       rw e (getD-set-same q (cell x) (x .colour + 1) 0 (omega (arith, good .long, cell-in j (tx .on)))) in
-      let low : 1 ≤ x .colour = within-low 1 (j .count) (x .colour) (tx .own .0) in
+      let low : 1 ≤ x .colour = within-low 1 count (x .colour) (tx .own .0) in
       never (ltb 1 (getD (says j q (laying x)) (cell y) 0)) (lt-ltb 1 (getD (says j q (laying x)) (cell y) 0) (omega arith)) (not-true _ (ty .own .1 .0))
 
   reorder : (q : List ℕ) (ys xs : List Piece) (r : List ℕ) → Reordered ys xs → Good j q → Lays q xs r → Lays q ys r
@@ -59,17 +75,22 @@ module _ (j : Job) where
   reorder q ys xs r (keep x {ps} {qs} h) good (t, l) = (t, reorder (says j q (laying x)) ps qs r h (says-good j q (laying x) good t) l)
   reorder q ys xs r (swap y x ps) good (tx, (ty, l)) =
       let ne : cell y ≢ cell x = two-cells q x y good tx ty in (
-        other j (says j q (laying x)) q (laying y) (sym (getD-set-other q (cell x) (cell y) (x .colour + 1) 0 ne)) ty,
+        first y x (tx .stored) ne ty,
         (
-          other j q (says j q (laying y)) (laying x) (getD-set-other q (cell y) (cell x) (y .colour + 1) 0 (λ e. ne (sym e))) tx,
+          other j q (says j q (laying y)) (laying x) (says-stored j q (laying y) (first y x (tx .stored) ne ty)) (getD-set-other q (cell y) (cell x) (y .colour + 1) 0 (λ e. ne (sym e))) tx,
           subst (λ (m : List ℕ). Lays m ps r) (set-comm q (cell x) (cell y) (x .colour + 1) (y .colour + 1) (λ e. ne (sym e))) l,
         ),
       )
+    where
+      -- the second lay, made first
+      first : (y x : Piece) → piecesStored q count ≡ true → cell y ≢ cell x → Taken j (says j q (laying x)) (laying y) → Taken j q (laying y)
+      first y x s ne ty = other j (says j q (laying x)) q (laying y) s (sym (getD-set-other q (cell x) (cell y) (x .colour + 1) 0 ne)) ty
   reorder q ys xs r (twice {ps} {qs} {rs} h i) good l = reorder q ps qs r h good (reorder q qs rs r i good l)
 
   -- ---- the lays row by row
 
-  module _ (p : List ℕ) (good : Good j p) where
+  -- `may`: where a piece stands, so many colours may be named of the tiles and the pieces
+  module _ (p : List ℕ) (good : Good j p) (may : (k : ℕ) → laidOn p k ≡ true → Named j count × (piecesStored p count ≡ true)) where
     abbrev stored : ℕ → ℕ
     stored k = getD p k 0
 
@@ -85,40 +106,47 @@ module _ (j : Job) where
         swept-above 0 n stored (nothing j) n (omega (arith, length-tab (j .rows * j .cols) (λ k. bare))) (le-refl n)
         ∙ getD-tab (j .rows * j .cols) (λ k. bare) n 0 n<
 
-    next-taken : (n : ℕ) → n < j .rows * j .cols → laidOn p n ≡ true → Taken j (upTo n) (laying (piece n))
-    next-taken n n< on =
-        let job : InBounds j = good .backed n on in
+    next-taken : (n : ℕ) → n < j .rows * j .cols → laidOn p n ≡ true → piecesStored (upTo n) count ≡ true → Taken j (upTo n) (laying (piece n))
+    unfolding piecesStored
+    next-taken n n< on s =
+        let panel : InBounds j = good .backed n on .0 in
+        let m = may n on in
         let low : 1 < stored n = ltb-true 1 (stored n) on in
-        let high : stored n ≤ j .count + 1 = within-high 1 (j .count + 1) (stored n) (good .stored n n<) in
+        let high : stored n ≤ count + 1 =
+        within-high 1 (count + 1) (stored n) (every-at (pieceStored p count) (length p) (m .1) n (omega (arith, good .long))) in
         let here : getD (upTo n) (cell (piece n)) 0 ≡ bare = rw (wall-cell j n) (bare-at n n<) in
         record {
-          job = job;
-          on = wall-on j n (sides-in (j .rows) (j .cols) (job .sides)) (job .offset) n<;
-          own = (within-is 1 (j .count) (colourOn p n) (omega arith) (omega arith), (ap (λ (x : ℕ). not (ltb 1 x)) here, tt));
+          panel = panel;
+          named = m .0;
+          stored = s;
+          on = wall-on j n (sides-in (j .rows) (j .cols) (panel .sides)) (panel .offset) n<;
+          own = (within-is 1 count (colourOn p n) (omega arith) (omega arith), (ap (λ (x : ℕ). not (ltb 1 x)) here, tt));
         }
 
     row-by-row : (n : ℕ) → n ≤ j .rows * j .cols → Lays (nothing j) (those n (laidOn p) piece) (upTo n)
     unfolding those
     row-by-row zero h = swept-none 0 stored (nothing j)
     row-by-row (suc n) h =
+        let before : Lays (nothing j) (those n (laidOn p) piece) (upTo n) = row-by-row n (omega arith) in
         then-lays (nothing j) (those n (laidOn p) piece) (upTo n) (pick (laidOn p n) (piece n ∷ []) []) (upTo (suc n))
-        (row-by-row n (omega arith)) (one-more (laidOn p n) refl)
+        before
+        (one-more (lays-stored (nothing j) (those n (laidOn p) piece) (upTo n) before nothing-stored) (laidOn p n) refl)
       where
         long : length (nothing j) ≡ j .rows * j .cols
         long = length-tab (j .rows * j .cols) (λ k. bare)
 
-        one-more : (t : Bool) → laidOn p n ≡ t → Lays (upTo n) (pick t (piece n ∷ []) []) (upTo (suc n))
-        one-more true on = (
-          next-taken n h on,
+        one-more : piecesStored (upTo n) count ≡ true → (t : Bool) → laidOn p n ≡ t → Lays (upTo n) (pick t (piece n ∷ []) []) (upTo (suc n))
+        one-more s true on = (
+          next-taken n h on s,
           rw (wall-cell j n, ← add-one n)
               (swept-turn 0 (upTo n) (nothing j) n stored (colourOn p n + 1) (omega (arith, long)) refl (omega (arith, ltb-true 1 (stored n) on))),
         )
-        one-more false off =
+        one-more s false off =
             rw (← add-one n)
             (swept-skip 0 (upTo n) (nothing j) n (n + 1) stored (omega arith)
             (λ k a b c.
             let same : k ≡ n = omega arith in
-            let low : 1 ≤ stored n = within-low 1 (j .count + 1) (stored n) (good .stored n h) in
+            let low : 1 ≤ stored n = within-low 1 (maxColours + 1) (stored n) (good .coloured n h) in
             let high : stored n ≤ 1 = ltb-false 1 (stored n) off in
             rw same (omega (arith, getD-tab (j .rows * j .cols) (λ i. bare) n 0 h)))
             refl)
@@ -135,32 +163,72 @@ module _ (j : Job) where
   -- ---- as a run
 
   as-run : (q : List ℕ) (xs : List Piece) (r : List ℕ) → Good j q → Lays q xs r
-      → (acceptedIn j (ofPieces j q) (lays xs) ≡ lays xs) × (run j (ofPieces j q) (lays xs) ≡ ofPieces j r)
+      → (acceptedIn j (ofPieces j q) (lays count xs) ≡ lays count xs) × (run j (ofPieces j q) (lays count xs) ≡ ofPieces j r)
   unfolding acceptedIn run fold lays
   as-run q [] r good e = (refl, ap (ofPieces j) e)
   as-run q (x ∷ xs) r good (t, l) =
       let rest = as-run (says j q (laying x)) xs r (says-good j q (laying x) good t) l in (
         has-new _ (laying x ∷ later) later yes
-            ∙ ap (λ (cs : List Call). laying x ∷ cs) (ap (λ (b : Board). acceptedIn j b (lays xs)) left ∙ rest .0),
-        ap (λ (b : Board). run j b (lays xs)) left ∙ rest .1,
+            ∙ ap (λ (cs : List Call). laying x ∷ cs) (ap (λ (b : Board). acceptedIn j b (lays count xs)) left ∙ rest .0),
+        ap (λ (b : Board). run j b (lays count xs)) left ∙ rest .1,
       )
     where
       yes : refusalOf j (ofPieces j q) (laying x) ≡ 0
       yes = taken j q (laying x) good t
 
       later : List Call
-      later = acceptedIn j (step j (ofPieces j q) (laying x)) (lays xs)
+      later = acceptedIn j (step j (ofPieces j q) (laying x)) (lays count xs)
 
       left : step j (ofPieces j q) (laying x) ≡ ofPieces j (says j q (laying x))
       left = step-is j q (laying x) good ∙ ap (ofPieces j) (has-new _ (says j q (laying x)) q yes)
 
-  -- "So the board equals one where only the standing pieces were laid, in any order"; each of those lays is accepted
-  pub any-order : (calls : List Call) (pieces : List Piece) → Reordered pieces (standing j (run j (fresh j) calls .pieces))
-      → (acceptedIn j (fresh j) (lays pieces) ≡ lays pieces) × (run j (fresh j) (lays pieces) ≡ run j (fresh j) calls)
-  any-order calls pieces h =
-      let p : List ℕ = run j (fresh j) calls .pieces in
-      let good : Good j p = pieces-good j calls in
-      let done = as-run (nothing j) pieces p (fresh-good j) (reorder (nothing j) pieces (standing j p) p h (fresh-good j) (all-laid p good)) in (
-        ap (λ (b : Board). acceptedIn j b (lays pieces)) (fresh-of j) ∙ done .0,
-        ap (λ (b : Board). run j b (lays pieces)) (fresh-of j) ∙ done .1 ∙ sym (says-all j calls),
+  -- ---- by the rule of lay alone
+
+  by-rule : (q : List ℕ) (xs : List Piece) (r : List ℕ) → Good j q → Lays q xs r → laidAll j (ofPieces j q) xs ≡ ofPieces j r
+  unfolding laidAll fold
+  by-rule q [] r good e = ap (ofPieces j) e
+  by-rule q (x ∷ xs) r good (t, l) =
+      ap (λ (b : Board). laidAll j b xs) (laid-of j q count (x .place) (x .colour) good t)
+      ∙ by-rule (says j q (laying x)) xs r (says-good j q (laying x) good t) l
+
+module _ (j : Panel) (calls : List Call) (pieces : List Piece) (order : Reordered pieces (standing j (run j (fresh j) calls .pieces))) where
+  abbrev p : List ℕ
+  p = run j (fresh j) calls .pieces
+
+  -- the pieces of the run, laid in this order
+  laid-so : (count : ℕ) → ((k : ℕ) → laidOn p k ≡ true → Named j count × (piecesStored p count ≡ true)) → Lays j count (nothing j) pieces p
+  laid-so count may =
+      reorder j count (nothing j) pieces (standing j p) p order (fresh-good j) (all-laid j count p (pieces-good j calls) may)
+
+  called : (count : ℕ) → ((k : ℕ) → laidOn p k ≡ true → Named j count × (piecesStored p count ≡ true))
+      → (acceptedIn j (fresh j) (lays count pieces) ≡ lays count pieces) × (run j (fresh j) (lays count pieces) ≡ run j (fresh j) calls)
+  called count may =
+      let done = as-run j count (nothing j) pieces p (fresh-good j) (laid-so count may) in (
+        ap (λ (b : Board). acceptedIn j b (lays count pieces)) (fresh-of j) ∙ done .0,
+        ap (λ (b : Board). run j b (lays count pieces)) (fresh-of j) ∙ done .1 ∙ sym (says-all j calls),
       )
+
+  -- the largest number of colours may always be named
+  largest-may : (k : ℕ) → laidOn p k ≡ true → Named j maxColours × (piecesStored p maxColours ≡ true)
+  unfolding piecesStored
+  largest-may k on =
+      let good : Good j p = pieces-good j calls in (
+        good .backed k on .1,
+        every-is (pieceStored p maxColours) (length p) (λ i i<. good .coloured i (omega (arith, good .long))),
+      )
+
+  -- "So the board equals one where only the standing pieces were laid, in any order": laid by the rule
+  pub any-order : laidAll j (fresh j) pieces ≡ run j (fresh j) calls
+  any-order =
+      ap (λ (b : Board). laidAll j b pieces) (fresh-of j)
+      ∙ by-rule j maxColours (nothing j) pieces p (fresh-good j) (laid-so maxColours largest-may)
+      ∙ sym (says-all j calls)
+
+  -- laid by the call; each of those lays is accepted
+  pub any-order-laid : (acceptedIn j (fresh j) (lays maxColours pieces) ≡ lays maxColours pieces) × (run j (fresh j) (lays maxColours pieces) ≡ run j (fresh j) calls)
+  any-order-laid = called maxColours largest-may
+
+  -- the same with any number of colours that is in bounds and has those of the tiles and of the pieces
+  pub any-order-named : (count : ℕ) → colourCount count ≡ true → noneAbove (j .tiles) count ≡ true → piecesStored p count ≡ true
+      → (acceptedIn j (fresh j) (lays count pieces) ≡ lays count pieces) × (run j (fresh j) (lays count pieces) ≡ run j (fresh j) calls)
+  any-order-named count n t s = called count (λ k on. (record { within = n; cells = t }, s))

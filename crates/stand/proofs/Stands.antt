@@ -1,5 +1,6 @@
 -- Demand 3. After any run of lay and lift from a fresh board, refused calls included, the board is what the accepted calls say, and its
--- weights and counts are those that the standing pieces alone say. For every job and all arguments; nothing else is asked.
+-- weights and counts are those that the standing pieces alone say. For every panel and all arguments, the number of colours that each call
+-- names among them; nothing else is asked.
 --     stands          the whole board, as one equation
 --     pieces-stand, weights-stand, counts-stand   its three parts in the words of the demand
 --     from-fresh      the board that an accepted call of fresh leaves is the one from which the runs start
@@ -21,8 +22,8 @@ use Rattle.base.proofs.Tabled.{getD-tab}
 use Rattle.rules.specs.Tests.{tilesIn}
 use Rattle.rules.specs.Grid.{flat, laidOn}
 use Rattle.rules.specs.Fit.{pattern, fitCount}
-use Rattle.rules.specs.Board.{Job, Board, shapeOf, share, reach, weightsOf, countsOf, boardOf, freshChecks, afterFresh}
-use Rattle.stand.specs.Runs.{Call, fresh, refusalOf, step, run, acceptedIn, says, told, withinOne, exactlyTwo}
+use Rattle.rules.specs.Board.{Board, share, reach, weightsOf, countsOf, boardOf, freshChecks, afterFresh}
+use Rattle.stand.specs.Runs.{Panel, shapeOn, Call, fresh, refusalOf, step, run, acceptedIn, says, told, withinOne, exactlyTwo}
 use Rattle.stand.proofs.Shared.{fresh-is}
 use Rattle.stand.proofs.Calls.{Good, ofPieces, moved, step-is, nothing, fresh-good, moved-good}
 
@@ -51,7 +52,7 @@ shares (suc n) on d =
     let b : pick (on n) (share (d n)) 0 ≡ 3 * pick (on n && leb (d n) 1) 1 0 + pick (on n && eqb (d n) 2) 1 0 = one-share (on n) (d n) in
     omega arith
 
-module _ (j : Job) where
+module _ (j : Panel) where
   -- the pieces after a run
   abbrev pub movedBy : List ℕ → List Call → List ℕ
   movedBy p calls = fold (moved j) p calls
@@ -84,7 +85,7 @@ module _ (j : Job) where
 
   pub fresh-of : fresh j ≡ ofPieces j (nothing j)
   unfolding flat
-  fresh-of = fresh-is (shapeOf j) (j .tiles)
+  fresh-of = fresh-is (shapeOn j) (j .tiles)
 
   -- from a fresh board
   pub run-fresh : (calls : List Call) → run j (fresh j) calls ≡ ofPieces j (movedBy (nothing j) calls)
@@ -100,7 +101,7 @@ module _ (j : Job) where
 
   -- Demand 3. "From a fresh board, with size, tiles and offset fixed and only lay and lift touching it, after any run of those calls,
   -- refused ones included": the board is the one that the pieces told by the accepted calls make.
-  pub stands : (calls : List Call) → run j (fresh j) calls ≡ boardOf (shapeOf j) (j .tiles) (told j (acceptedIn j (fresh j) calls))
+  pub stands : (calls : List Call) → run j (fresh j) calls ≡ boardOf (shapeOn j) (j .tiles) (told j (acceptedIn j (fresh j) calls))
   stands calls = run-fresh calls ∙ ap (ofPieces j) (sym (told-fresh calls))
 
   -- "the pieces standing are those the accepted calls say"
@@ -109,8 +110,8 @@ module _ (j : Job) where
   pieces-stand calls = ap (λ (b : Board). b .pieces) (stands calls)
 
   -- the board of a run is what its pieces say
-  pub says-all : (calls : List Call) → run j (fresh j) calls ≡ boardOf (shapeOf j) (j .tiles) (run j (fresh j) calls .pieces)
-  says-all calls = stands calls ∙ ap (boardOf (shapeOf j) (j .tiles)) (sym (pieces-stand calls))
+  pub says-all : (calls : List Call) → run j (fresh j) calls ≡ boardOf (shapeOn j) (j .tiles) (run j (fresh j) calls .pieces)
+  says-all calls = stands calls ∙ ap (boardOf (shapeOn j) (j .tiles)) (sym (pieces-stand calls))
 
   -- "each weight is 1, plus 3 per piece at most one cell away, plus 1 per piece exactly two away"
   pub weights-stand : (calls : List Call) (k : ℕ) → k < j .rows * j .cols
@@ -120,18 +121,18 @@ module _ (j : Job) where
   weights-stand calls k k< =
       let p : List ℕ = run j (fresh j) calls .pieces in
       ap (λ (b : Board). getD (b .weights) k 0) (says-all calls)
-      ∙ getD-tab (j .rows * j .cols) (λ i. 1 + sum (j .rows * j .cols) (λ l. pick (laidOn p l) (reach (shapeOf j) l i) 0)) k 0 k<
-      ∙ omega (arith, shares (j .rows * j .cols) (laidOn p) (λ i. shapeOf j .apart i k))
+      ∙ getD-tab (j .rows * j .cols) (λ i. 1 + sum (j .rows * j .cols) (λ l. pick (laidOn p l) (reach (shapeOn j) l i) 0)) k 0 k<
+      ∙ omega (arith, shares (j .rows * j .cols) (laidOn p) (λ i. shapeOn j .apart i k))
 
   -- "each count is the number of tiles that fit its region, or all tiles where the region passes the edge"
   pub counts-stand : (calls : List Call) (s : ℕ) → s < j .rows * j .cols
       → getD (run j (fresh j) calls .counts) s 0
-      ≡ pick (shapeOf j .whole s) (fitCount (j .tiles) (pattern (shapeOf j) (run j (fresh j) calls .pieces) s)) (tilesIn (j .tiles))
+      ≡ pick (shapeOn j .whole s) (fitCount (j .tiles) (pattern (shapeOn j) (run j (fresh j) calls .pieces) s)) (tilesIn (j .tiles))
   unfolding boardOf countsOf flat
   counts-stand calls s s< =
       let p : List ℕ = run j (fresh j) calls .pieces in
       ap (λ (b : Board). getD (b .counts) s 0) (says-all calls)
-      ∙ getD-tab (j .rows * j .cols) (λ i. pick (shapeOf j .whole i) (fitCount (j .tiles) (pattern (shapeOf j) p i)) (tilesIn (j .tiles))) s 0 s<
+      ∙ getD-tab (j .rows * j .cols) (λ i. pick (shapeOn j .whole i) (fitCount (j .tiles) (pattern (shapeOn j) p i)) (tilesIn (j .tiles))) s 0 s<
 
   -- whatever the lent planes held, an accepted call of fresh leaves the board from which the runs start
   pub from-fresh : (b : Board) → refusal (freshChecks (j .rows) (j .cols) (tilesIn (j .tiles)) b) ≡ 0

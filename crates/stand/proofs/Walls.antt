@@ -17,13 +17,12 @@ use Rattle.rules.specs.Bounds.{maxBoardSide, minCoordinate, maxCoordinate, minO
 use Rattle.rules.specs.Tests.{boardSides, onWall, offsetFits, onBoard}
 use Rattle.rules.specs.Places.{cellOf}
 use Rattle.rules.specs.Grid.{numberOf}
-use Rattle.rules.specs.Board.{Job, cellIn}
 use Rattle.rules.specs.declared.World.{World}
 use Rattle.rules.specs.Places.{samePlace}
-use Rattle.stand.specs.Runs.{wallOf}
+use Rattle.stand.specs.Runs.{Panel, cellAt, wallOf}
 
 -- a wall coordinate whose cell lies on the board
-pub record On (j : Job) (w : World) : Type 0 where
+pub record On (j : Panel) (w : World) : Type 0 where
   pub wall : onWall w ≡ true
   pub board : onBoard (j .rows) (j .cols) w (j .offset) ≡ true
 
@@ -37,7 +36,7 @@ eqZ-same : (x : ℤ) → eqZ x x ≡ true
 eqZ-same (pos a) = eq-eqb a a refl
 eqZ-same (negsuc a) = eq-eqb a a refl
 
-module _ (j : Job) where
+module _ (j : Panel) where
   -- index = coordinate + offset
   abbrev rowZ : World → ℤ
   rowZ w = w .0 +ℤ j .offset .0
@@ -53,7 +52,7 @@ module _ (j : Job) where
   unfolding onBoard
   col-on {w} on = and-right (indexBelow (j .rows) (rowZ w)) (indexBelow (j .cols) (colZ w)) (on .board)
 
-  pub cell-in : {w : World} → On j w → cellIn j w < j .rows * j .cols
+  pub cell-in : {w : World} → On j w → cellAt j w < j .rows * j .cols
   unfolding numberOf cellOf
   cell-in {w} on = cell-lt (index-clip (j .rows) (rowZ w) (row-on on)) (index-clip (j .cols) (colZ w) (col-on on))
 
@@ -64,7 +63,7 @@ module _ (j : Job) where
       ∙ ap (λ (z : ℤ). z -ℤ o) (index-pos n (x +ℤ o) p ∙ ap pos e ∙ sym (index-pos n (y +ℤ o) q))
       ∙ +ℤ-negℤ-cancel y o
 
-  pub same-place : (v w : World) → On j v → On j w → cellIn j v ≡ cellIn j w → samePlace v w ≡ true
+  pub same-place : (v w : World) → On j v → On j w → cellAt j v ≡ cellAt j w → samePlace v w ≡ true
   unfolding samePlace numberOf cellOf
   same-place v w onv onw e =
       let cv : clip (colZ v) < j .cols = index-clip (j .cols) (colZ v) (col-on onv) in
@@ -78,7 +77,7 @@ module _ (j : Job) where
       and-both (eqZ (v .0) (w .0)) (eqZ (v .1) (w .1)) (rw r (eqZ-same (w .0))) (rw c (eqZ-same (w .1)))
 
   -- and one place has one cell
-  pub same-cell : (v w : World) → samePlace v w ≡ true → cellIn j v ≡ cellIn j w
+  pub same-cell : (v w : World) → samePlace v w ≡ true → cellAt j v ≡ cellAt j w
   unfolding samePlace numberOf cellOf
   same-cell v w e =
       let r : v .0 ≡ w .0 = eqZ-true (v .0) (w .0) (and-left (eqZ (v .0) (w .0)) (eqZ (v .1) (w .1)) e) in
@@ -121,7 +120,7 @@ sides-in rows cols e =
     }
 
 -- cell k has a place, and it is on the board
-pub wall-on : (j : Job) (k : ℕ) → Sides (j .rows) (j .cols) → offsetFits (j .offset) ≡ true → k < j .rows * j .cols → On j (wallOf j k)
+pub wall-on : (j : Panel) (k : ℕ) → Sides (j .rows) (j .cols) → offsetFits (j .offset) ≡ true → k < j .rows * j .cols → On j (wallOf j k)
 unfolding wallOf onWall offsetFits onBoard
 wall-on j k sides fits k< =
     let r< : k / j .cols < j .rows = row-lt k (j .rows) (j .cols) (sides .cols-pos) k< in
@@ -139,7 +138,7 @@ wall-on j k sides fits k< =
     }
 
 -- and its cell is k
-pub wall-cell : (j : Job) (k : ℕ) → cellIn j (wallOf j k) ≡ k
+pub wall-cell : (j : Panel) (k : ℕ) → cellAt j (wallOf j k) ≡ k
 unfolding wallOf numberOf cellOf
 wall-cell j k =
     rw (-ℤ-+ℤ-cancel (pos (k / j .cols)) (j .offset .0), -ℤ-+ℤ-cancel (pos (k % j .cols)) (j .offset .1)) (cell-is k (j .cols))

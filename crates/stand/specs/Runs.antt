@@ -1,6 +1,7 @@
 -- Demand 3: runs of lay and lift from a fresh board, refused calls included; what their accepted calls say; the standing pieces alone.
 -- What the calls do, and what the pieces say of weights and counts, stands in the rules' Board.
 use Prim.Native.Nat.{ℕ, _+_, _*_, _/_, _%_}
+use mathlib.Core.Path.{_≡_}
 use mathlib.Core.Bool.{_&&_}
 use mathlib.Core.List.{List, [], _∷_, map}
 use lib.Dec.{leb, eqb}
@@ -12,60 +13,86 @@ use Rattle.base.specs.Refusal.{refusal, unlessRefused}
 use Rattle.rules.specs.Bounds.{bare}
 use Rattle.rules.specs.Tests.{tilesIn}
 use Rattle.rules.specs.Places.{samePlace}
-use Rattle.rules.specs.Grid.{laidOn, colourOn}
-use Rattle.rules.specs.Board.{Job, Board, shapeOf, cellIn, freshBoard, layChecks, liftChecks, afterLay, afterLift}
+use Rattle.rules.specs.Grid.{Shape, flat, numberOf, laidOn, colourOn}
+use Rattle.rules.specs.Board.{Job, Board, freshBoard, laid, layChecks, liftChecks, afterLay, afterLift}
 use Rattle.rules.specs.declared.World.{World}
+use Rattle.rules.specs.declared.Offset.{Offset}
 
--- a call, with any place and any colour
-pub data Call : Type 0 where
-  lay : World → ℕ → Call
-  lift : World → Call
+-- "with size, tiles and offset fixed"
+pub record Panel : Type 0 where
+  pub rows : ℕ
+  pub cols : ℕ
+  pub tiles : List ℕ
+  pub offset : Offset
 
--- the fresh board of a job
-abbrev pub fresh : Job → Board
+abbrev pub shapeOn : Panel → Shape
+shapeOn j = flat (j .rows) (j .cols)
+
+abbrev pub cellAt : Panel → World → ℕ
+cellAt j w = numberOf (j .cols) w (j .offset)
+
+-- the fresh board of a panel
+abbrev pub fresh : Panel → Board
 fresh j = freshBoard (j .rows * j .cols) (tilesIn (j .tiles))
 
+-- a call: the number of colours that it names, its place, and the colour of a lay; any of them
+pub data Call : Type 0 where
+  lay : ℕ → World → ℕ → Call
+  lift : ℕ → World → Call
+
+abbrev pub placeOf : Call → World
+placeOf (lay count w colour) = w
+placeOf (lift count w) = w
+
+abbrev pub countOf : Call → ℕ
+countOf (lay count w colour) = count
+countOf (lift count w) = count
+
+-- the panel as the job of a call that names so many colours
+abbrev pub jobOf : Panel → ℕ → Job
+jobOf j count = record { rows = j .rows; cols = j .cols; count = count; tiles = j .tiles; offset = j .offset }
+
 -- the number that a call is refused with, 0 where it is accepted
-abbrev pub refusalOf : Job → Board → Call → ℕ
-refusalOf j b (lay w colour) = refusal (layChecks j b w colour)
-refusalOf j b (lift w) = refusal (liftChecks j b w)
+abbrev pub refusalOf : Panel → Board → Call → ℕ
+refusalOf j b (lay count w colour) = refusal (layChecks (jobOf j count) b w colour)
+refusalOf j b (lift count w) = refusal (liftChecks (jobOf j count) b w)
 
 -- the board that a call leaves, as the contracts of lay and lift say it
-abbrev pub step : Job → Board → Call → Board
-step j b (lay w colour) = afterLay j b w colour
-step j b (lift w) = afterLift j b w
+abbrev pub step : Panel → Board → Call → Board
+step j b (lay count w colour) = afterLay (jobOf j count) b w colour
+step j b (lift count w) = afterLift (jobOf j count) b w
 
 -- one call after the other, whatever they answer
-unfoldable pub run : Job → Board → List Call → Board
+unfoldable pub run : Panel → Board → List Call → Board
 run j b calls = fold (step j) b calls
 
 -- ---- "the pieces standing are those the accepted calls say"
 
 -- the accepted calls of a run, in order
-unfoldable pub acceptedIn : Job → Board → List Call → List Call
+unfoldable pub acceptedIn : Panel → Board → List Call → List Call
 acceptedIn j b [] = []
 acceptedIn j b (c ∷ calls) =
     let later : List Call = acceptedIn j (step j b c) calls in
     unlessRefused (refusalOf j b c) (c ∷ later) later
 
 -- a lay says that its colour stands there, a lift that its cell is bare
-abbrev pub says : Job → List ℕ → Call → List ℕ
-says j pieces (lay w colour) = set pieces (cellIn j w) (colour + 1)
-says j pieces (lift w) = set pieces (cellIn j w) bare
+abbrev pub says : Panel → List ℕ → Call → List ℕ
+says j pieces (lay count w colour) = set pieces (cellAt j w) (colour + 1)
+says j pieces (lift count w) = set pieces (cellAt j w) bare
 
 -- what the calls say one after the other, of a board that was bare
-unfoldable pub told : Job → List Call → List ℕ
+unfoldable pub told : Panel → List Call → List ℕ
 told j calls = fold (says j) (tab (j .rows * j .cols) (λ k. bare)) calls
 
 -- ---- "plus 3 per piece at most one cell away, plus 1 per piece exactly two away"
 
 -- how many pieces stand at most one cell away from cell k
-unfoldable pub withinOne : Job → List ℕ → ℕ → ℕ
-withinOne j pieces k = tally (j .rows * j .cols) (λ i. laidOn pieces i && leb (shapeOf j .apart i k) 1)
+unfoldable pub withinOne : Panel → List ℕ → ℕ → ℕ
+withinOne j pieces k = tally (j .rows * j .cols) (λ i. laidOn pieces i && leb (shapeOn j .apart i k) 1)
 
 -- how many stand exactly two away
-unfoldable pub exactlyTwo : Job → List ℕ → ℕ → ℕ
-exactlyTwo j pieces k = tally (j .rows * j .cols) (λ i. laidOn pieces i && eqb (shapeOf j .apart i k) 2)
+unfoldable pub exactlyTwo : Panel → List ℕ → ℕ → ℕ
+exactlyTwo j pieces k = tally (j .rows * j .cols) (λ i. laidOn pieces i && eqb (shapeOn j .apart i k) 2)
 
 -- ---- "only the standing pieces were laid, in any order"
 
@@ -74,11 +101,11 @@ pub record Piece : Type 0 where
   pub colour : ℕ
 
 -- the wall coordinate of cell k: coordinate = index - offset
-unfoldable pub wallOf : Job → ℕ → World
+unfoldable pub wallOf : Panel → ℕ → World
 wallOf j k = record { 0 = pos (k / j .cols) -ℤ j .offset .0; 1 = pos (k % j .cols) -ℤ j .offset .1 }
 
 -- the standing pieces, row by row
-unfoldable pub standing : Job → List ℕ → List Piece
+unfoldable pub standing : Panel → List ℕ → List Piece
 standing j pieces =
     those (j .rows * j .cols) (laidOn pieces) (λ k. record { place = wallOf j k; colour = colourOn pieces k })
 
@@ -89,15 +116,20 @@ pub data Reordered : List Piece → List Piece → Type 0 where
   swap : (p q : Piece) (ps : List Piece) → Reordered (p ∷ q ∷ ps) (q ∷ p ∷ ps)
   twice : {ps qs rs : List Piece} → Reordered ps qs → Reordered qs rs → Reordered ps rs
 
--- one lay for each piece
-unfoldable pub lays : List Piece → List Call
-lays pieces = map (λ p. lay (p .place) (p .colour)) pieces
+-- each piece laid by the rule alone, without the checks of a call
+unfoldable pub laidAll : Panel → Board → List Piece → Board
+laidAll j b pieces = fold (λ c p. laid (shapeOn j) (j .tiles) c (cellAt j (p .place)) (p .colour)) b pieces
+
+-- one call of lay for each piece, all of which name so many colours
+unfoldable pub lays : ℕ → List Piece → List Call
+lays count pieces = map (λ p. lay count (p .place) (p .colour)) pieces
 
 -- ---- "as if that piece had never lain there"
 
-abbrev pub placeOf : Call → World
-placeOf (lay w colour) = w
-placeOf (lift w) = w
+-- all these calls name so many colours
+abbrev pub Naming : ℕ → List Call → Type 0
+Naming count [] = Unit
+Naming count (c ∷ calls) = (countOf c ≡ count) × Naming count calls
 
 -- the calls that name another place than w
 unfoldable pub elsewhere : World → List Call → List Call
