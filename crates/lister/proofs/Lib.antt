@@ -1,4 +1,5 @@
 pub mod Setting
 pub mod Telling
 pub mod Whole
+pub mod Standing
 pub mod Coincide
