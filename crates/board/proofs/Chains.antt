@@ -15,7 +15,7 @@ use Rattle.rules.specs.Tests.{boardSides, hasLength, wholeTiles, tilesIn, colou
 use Rattle.rules.specs.Places.{cellOf}
 use Rattle.rules.specs.Tiles.{tilesCounted}
 use Rattle.rules.specs.Fit.{piecesChecks, placeChecks}
-use Rattle.rules.specs.Board.{boardChecks}
+use Rattle.rules.specs.Board.{boardChecks, layingChecks}
 use Rattle.rules.specs.declared.World.{World}
 use Rattle.rules.specs.declared.Offset.{Offset}
 use Rattle.rules.specs.declared.Cell.{Cell}
@@ -31,7 +31,7 @@ use Rattle.windows.proofs.Accepted.{accepted-ready}
 use Rattle.nearness.specs.Near.{nearSpans}
 use Rattle.nearness.proofs.Leaning.{on-plane}
 use Rattle.nearness.proofs.Placing.{near-passed, nearby}
-use Rattle.planes.specs.Planes.{board, job, lengthsChecks, contentsChecks, layingChecks}
+use Rattle.planes.specs.Planes.{board, job, lengthsChecks, contentsChecks}
 use Rattle.moves.specs.Standing.{Standing}
 
 module _ (pieces weights counts : List ℕ) (rows cols : ℕ) (tiles : List ℕ) (count : ℕ) where

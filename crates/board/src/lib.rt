@@ -1,9 +1,8 @@
 // Lay and lift on a board, three lent planes, pieces, weights and counts. A refused call changes none of them. Places are wall
 // coordinates; the offset leads to the cell.
 ghost use mathlib.Core.Path.{_≡_};
-ghost use Rattle.base.specs.Refusal.{Gives, refusal};
-ghost use Rattle.rules.specs.Answers.{layAnswer, liftAnswer};
-ghost use Rattle.rules.specs.Board.{layChecks, afterLay, liftChecks, afterLift};
+ghost use Rattle.base.specs.Refusal.{Gives};
+ghost use Rattle.rules.specs.Board.{laying, afterLay, lifting, afterLift};
 ghost use Rattle.planes.specs.Planes.{board, job};
 use checks::tile_number;
 use moves::lay_at;
@@ -34,7 +33,7 @@ pub fn lay(
     offset: Offset,
     colour: u32,
 ) -> LayAnswer
-    ensures { λ a. ⌜ Gives (layAnswer (refusal (layChecks (job rows cols count (now (tiles .entry)) offset) (board (now (pieces .entry)) (now (weights .entry)) (now (counts .entry))) position colour))) (afterLay (job rows cols count (now (tiles .entry)) offset) (board (now (pieces .entry)) (now (weights .entry)) (now (counts .entry))) position colour) a (board (now (pieces .exit)) (now (weights .exit)) (now (counts .exit))) ⌝ }
+    ensures { λ a. ⌜ Gives (laying (job rows cols count (now (tiles .entry)) offset) (board (now (pieces .entry)) (now (weights .entry)) (now (counts .entry))) position colour) (afterLay (job rows cols count (now (tiles .entry)) offset) (board (now (pieces .entry)) (now (weights .entry)) (now (counts .entry))) position colour) a (board (now (pieces .exit)) (now (weights .exit)) (now (counts .exit))) ⌝ }
 {
     let no = lengths_refused(pieces, weights, counts, rows, cols);
     if no != 0 {
@@ -82,7 +81,7 @@ pub fn lift(
     position: World,
     offset: Offset,
 ) -> LiftAnswer
-    ensures { λ a. ⌜ Gives (liftAnswer (refusal (liftChecks (job rows cols count (now (tiles .entry)) offset) (board (now (pieces .entry)) (now (weights .entry)) (now (counts .entry))) position))) (afterLift (job rows cols count (now (tiles .entry)) offset) (board (now (pieces .entry)) (now (weights .entry)) (now (counts .entry))) position) a (board (now (pieces .exit)) (now (weights .exit)) (now (counts .exit))) ⌝ }
+    ensures { λ a. ⌜ Gives (lifting (job rows cols count (now (tiles .entry)) offset) (board (now (pieces .entry)) (now (weights .entry)) (now (counts .entry))) position) (afterLift (job rows cols count (now (tiles .entry)) offset) (board (now (pieces .entry)) (now (weights .entry)) (now (counts .entry))) position) a (board (now (pieces .exit)) (now (weights .exit)) (now (counts .exit))) ⌝ }
 {
     let no = lengths_refused(pieces, weights, counts, rows, cols);
     if no != 0 {

@@ -9,11 +9,11 @@ use Rattle.base.specs.Refusal.{Checks, refusal, Gives}
 use Rattle.base.proofs.Chain.{stopped, went-on, numbered, _then_}
 use Rattle.base.proofs.Tabled.{length-tab}
 use Rattle.rules.specs.Tests.{hasLength}
-use Rattle.rules.specs.Places.{newCols, copyChecks}
+use Rattle.rules.specs.Answers.{writtenAnswer}
+use Rattle.rules.specs.Places.{newCols, copyChecks, afterCopy}
 use Rattle.rules.specs.declared.Pads.{Pads}
 use Rattle.rules.specs.declared.Written.{Written}
 use Rattle.rules.specs.declared.Written.the-variants.{Done, Refused}
-use Rattle.copies.specs.Copy.{copyAnswer, copyLeaves}
 use Rattle.copy_checks.specs.Laid.{sizeChecks, laid, Sized}
 use Rattle.copy_checks.proofs.Copied.{laid-copied}
 use Rattle.copy_checks.proofs.Sides.{sized}
@@ -31,11 +31,13 @@ module _ {A : Type 0} (d fill : A) (plane target : List A) (rows cols : ℕ) (p 
 
   -- what the call promises of its answer and of the target after it
   abbrev pub Copies : Written → List A → Type 0
-  Copies = Gives (copyAnswer plane rows cols p target more) (copyLeaves d fill plane rows cols p target more)
+  Copies =
+      let checks = copyChecks plane rows cols p target more in
+      Gives (writtenAnswer (refusal checks)) (afterCopy d fill plane rows cols p target checks)
 
   -- a refusal is answered, and the target is as it was
   refused-is : (n : ℕ) → n ≡ refusal (copyChecks plane rows cols p target more) → (n ≡ 0 → ⊥) → Copies (Refused n) target
-  unfolding copyAnswer copyLeaves
+  unfolding afterCopy
   refused-is zero e h = absurd (h refl)
   refused-is (suc n) e h = rw (← e) (record { answered = refl; leaves = refl })
 
@@ -57,6 +59,6 @@ module _ {A : Type 0} (d fill : A) (plane target : List A) (rows cols : ℕ) (p 
         record { old-sides = sizes .old-sides; new-sides = sizes .new-sides; held-is = sizes .held-is; room-is = g ∙ sizes .room-is }
 
     pub copy-done : (v : List A) → 0 ≡ refusal more → v ≡ laid d plane rows cols (p .left) (p .top) (newCols cols p) w → Copies Done v
-    unfolding copyAnswer copyLeaves
+    unfolding afterCopy
     copy-done v h q =
         rw (← asked-more e z h) (record { answered = refl; leaves = q ∙ laid-copied d fill plane w target rows cols p (sizes .room-is) f })

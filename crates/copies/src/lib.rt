@@ -1,10 +1,8 @@
 // Document 01, "Places": a plane is copied into a larger one, of which the new cells hold 1. The larger one is filled with 1 whole,
 // and then the rows are laid in it.
-ghost use lib.Ieee.{nan};
-ghost use Rattle.base.specs.Refusal.{accepted, _unless_or_, Gives};
-ghost use Rattle.rules.specs.Bounds.{NUMBER};
-ghost use Rattle.rules.specs.Floats.{one64, isNumber, allAre};
-ghost use Rattle.copies.specs.Copy.{copyAnswer, copyLeaves};
+ghost use Rattle.base.specs.Refusal.{Gives, refusal};
+ghost use Rattle.rules.specs.Answers.{writtenAnswer};
+ghost use Rattle.rules.specs.Places.{wordCopyChecks, floatCopyChecks, afterWordCopy, afterFloatCopy};
 use copy_checks::copy_refused;
 use copy_floats::fill_f64;
 use copy_floats::lay_rows_f64;
@@ -21,7 +19,7 @@ pub fn extend_array_2d_u32(
     cols: usize,
     pads: Pads,
 ) -> Written
-    ensures { λ r. ⌜ Gives (copyAnswer (now (plane .entry)) rows cols pads (now (target .entry)) accepted) (copyLeaves 0 1 (now (plane .entry)) rows cols pads (now (target .entry)) accepted) r (now (target .exit)) ⌝ }
+    ensures { λ r. ⌜ Gives (writtenAnswer (refusal (wordCopyChecks (now (plane .entry)) rows cols pads (now (target .entry))))) (afterWordCopy (now (plane .entry)) rows cols pads (now (target .entry))) r (now (target .exit)) ⌝ }
 {
     let refused = copy_refused(rows, cols, pads, plane.len(), target.len());
     if refused != 0 {
@@ -40,7 +38,7 @@ pub fn extend_array_2d_f64(
     cols: usize,
     pads: Pads,
 ) -> Written
-    ensures { λ r. ⌜ Gives (copyAnswer (now (plane .entry)) rows cols pads (now (target .entry)) (NUMBER unless allAre isNumber (now (plane .entry)) or accepted)) (copyLeaves nan one64 (now (plane .entry)) rows cols pads (now (target .entry)) (NUMBER unless allAre isNumber (now (plane .entry)) or accepted)) r (now (target .exit)) ⌝ }
+    ensures { λ r. ⌜ Gives (writtenAnswer (refusal (floatCopyChecks (now (plane .entry)) rows cols pads (now (target .entry))))) (afterFloatCopy (now (plane .entry)) rows cols pads (now (target .entry))) r (now (target .exit)) ⌝ }
 {
     let refused = copy_refused(rows, cols, pads, plane.len(), target.len());
     if refused != 0 {

@@ -1,10 +1,9 @@
 // The functions of the desk program, which is C: fitting colours, lay and lift on numbers, byte tiles and u32 planes. include/desk.h is
 // their C side, for the C programmer; a place goes over as a row and a column on the wall, the offset likewise, each answer is 0 or
 // document 01's refusal number.
-ghost use Rattle.base.specs.Refusal.{Gives, refusal};
-ghost use Rattle.rules.specs.Answers.{layAnswer, liftAnswer};
+ghost use Rattle.base.specs.Refusal.{Gives};
 ghost use Rattle.rules.specs.Fit.{listing};
-ghost use Rattle.rules.specs.Board.{layChecks, afterLay, liftChecks, afterLift};
+ghost use Rattle.rules.specs.Board.{laying, afterLay, lifting, afterLift};
 ghost use Rattle.planes.specs.Planes.{board, job};
 ghost use Rattle.slots.specs.Slots.{world, offsetBy};
 ghost use Rattle.boundary.specs.Boundary.{layNumber, liftNumber, listingNumber};
@@ -74,7 +73,7 @@ pub extern "C" fn desk_lay(
     across: i32,
     colour: u32,
 ) -> u32
-    ensures { λ r. ⌜ Gives (layNumber (layAnswer (refusal (layChecks (job rows cols count (now (tiles .entry)) (offsetBy down across)) (board (now (pieces .entry)) (now (weights .entry)) (now (counts .entry))) (world row col) colour)))) (afterLay (job rows cols count (now (tiles .entry)) (offsetBy down across)) (board (now (pieces .entry)) (now (weights .entry)) (now (counts .entry))) (world row col) colour) r (board (now (pieces .exit)) (now (weights .exit)) (now (counts .exit))) ⌝ }
+    ensures { λ r. ⌜ Gives (layNumber (laying (job rows cols count (now (tiles .entry)) (offsetBy down across)) (board (now (pieces .entry)) (now (weights .entry)) (now (counts .entry))) (world row col) colour)) (afterLay (job rows cols count (now (tiles .entry)) (offsetBy down across)) (board (now (pieces .entry)) (now (weights .entry)) (now (counts .entry))) (world row col) colour) r (board (now (pieces .exit)) (now (weights .exit)) (now (counts .exit))) ⌝ }
 {
     let laid_at = world_at(row, col);
     let offset = offset_at(down, across);
@@ -107,7 +106,7 @@ pub extern "C" fn desk_lift(
     down: i32,
     across: i32,
 ) -> u32
-    ensures { λ r. ⌜ Gives (liftNumber (liftAnswer (refusal (liftChecks (job rows cols count (now (tiles .entry)) (offsetBy down across)) (board (now (pieces .entry)) (now (weights .entry)) (now (counts .entry))) (world row col))))) (afterLift (job rows cols count (now (tiles .entry)) (offsetBy down across)) (board (now (pieces .entry)) (now (weights .entry)) (now (counts .entry))) (world row col)) r (board (now (pieces .exit)) (now (weights .exit)) (now (counts .exit))) ⌝ }
+    ensures { λ r. ⌜ Gives (liftNumber (lifting (job rows cols count (now (tiles .entry)) (offsetBy down across)) (board (now (pieces .entry)) (now (weights .entry)) (now (counts .entry))) (world row col))) (afterLift (job rows cols count (now (tiles .entry)) (offsetBy down across)) (board (now (pieces .entry)) (now (weights .entry)) (now (counts .entry))) (world row col)) r (board (now (pieces .exit)) (now (weights .exit)) (now (counts .exit))) ⌝ }
 {
     let lifted_at = world_at(row, col);
     let offset = offset_at(down, across);

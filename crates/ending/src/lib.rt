@@ -5,6 +5,7 @@ ghost use mathlib.Core.List.{List, _++_};
 ghost use Prim.Native.Nat.{ℕ, _≤_};
 ghost use lib.ListN.{length};
 ghost use Rattle.planes.specs.Planes.{board};
+ghost use Rattle.rules.specs.Bounds.{maxCells};
 ghost use Rattle.rules.specs.Tests.{boardSides};
 ghost use Rattle.lines.specs.Lines.{planeText};
 ghost use Rattle.lines.specs.Pages.{Writes};
@@ -53,7 +54,7 @@ pub fn put_refused(out: &mut [u8], at: usize, n: u8) -> usize
 }
 
 fn put_dead_end(out: &mut [u8], at: usize, cell: Cell) -> usize
-    requires { ⌜ (cell .0 ≤ 4096) × (cell .1 ≤ 4096) ⌝ }
+    requires { ⌜ (cell .0 ≤ maxCells) × (cell .1 ≤ maxCells) ⌝ }
     ensures { λ r. ⌜ Writes (deadEndText cell) at (now (out .entry)) r (now (out .exit)) ⌝ }
 {
     let row = lines::put_text(out, at, b"dead end ");

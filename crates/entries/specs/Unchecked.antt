@@ -2,12 +2,11 @@
 use Prim.Native.Nat.{ℕ, _≤_}
 use mathlib.Core.Path.{_≡_}
 use mathlib.Core.List.{List}
-use lib.Dec.{leb}
-use lib.ListN.{length, drop}
-use Rattle.base.specs.Refusal.{Checks, accepted, _unless_or_, refusal, unlessRefused}
-use Rattle.rules.specs.Bounds.{queueRoom, addedRoom, ROOM}
+use lib.ListN.{drop}
+use Rattle.base.specs.Refusal.{refusal, unlessRefused}
+use Rattle.rules.specs.Bounds.{queueRoom, addedRoom}
 use Rattle.rules.specs.Answers.{writtenAnswer, nextAnswer}
-use Rattle.rules.specs.Forced.{queued, queueOf}
+use Rattle.rules.specs.Forced.{queued, queueOf, roomChecks}
 use Rattle.rules.specs.declared.ForcedPosition.{ForcedPosition}
 use Rattle.rules.specs.declared.ForcedPositions.{ForcedPositions}
 use Rattle.rules.specs.declared.ForcedPipeline.{ForcedPipeline}
@@ -27,9 +26,6 @@ pub record Tidy (q : ForcedPipeline) : Type 0 where
 pub record Adding (q : ForcedPipeline) (p : ForcedPositions) : Type 0 where
   pub in-room : q .len ≤ queueRoom
   pub few : p .len ≤ addedRoom
-
-abbrev pub roomChecks : List ForcedPosition → Checks
-roomChecks l = ROOM unless leb (length l) queueRoom or accepted
 
 -- the queue of l if there is room for all of it, else q as it was
 unfoldable pub grownTo : ForcedPipeline → List ForcedPosition → Grown

@@ -15,7 +15,7 @@ use Rattle.rules.specs.Tests.{onBoard}
 use Rattle.rules.specs.Places.{cellOf}
 use Rattle.rules.specs.Grid.{flat, numberOf, laidOn}
 use Rattle.rules.specs.Fit.{lists}
-use Rattle.rules.specs.Forced.{admits, listedAt, only, isForced, forcedThere}
+use Rattle.rules.specs.Forced.{admits, listedAt, only, forcesOne, isForced, forcedThere}
 use Rattle.rules.specs.declared.World.{World}
 use Rattle.rules.specs.declared.Offset.{Offset}
 use Rattle.rules.specs.declared.GenerationBounds.{GenerationBounds}
@@ -39,16 +39,16 @@ module _ (pieces : List ℕ) (rows cols : ℕ) (tiles : List ℕ) (count : ℕ) 
   pub not-admitted : admits b w ≡ false → 0 ≡ forcedColour pieces rows cols tiles count w o b
   unfolding isForced
   not-admitted e =
-      outside (and-no-left (admits b w && onBoard rows cols w o && bare) _ (and-no-left (admits b w && onBoard rows cols w o) _ (and-no-left (admits b w) _ e)))
+      outside (and-no-left (admits b w && onBoard rows cols w o) _ (and-no-left (admits b w) _ e))
 
   pub off-board : onBoard rows cols w o ≡ false → 0 ≡ forcedColour pieces rows cols tiles count w o b
   unfolding isForced
   off-board e =
-      outside (and-no-left (admits b w && onBoard rows cols w o && bare) _ (and-no-left (admits b w && onBoard rows cols w o) _ (and-no-right (admits b w) _ e)))
+      outside (and-no-left (admits b w && onBoard rows cols w o) _ (and-no-right (admits b w) _ e))
 
   -- where those hold, the rest is asked of the cell
   is-one : admits b w ≡ true → onBoard rows cols w o ≡ true → isForced pieces rows cols tiles count w o b ≡ (bare && eqb (length here) 1)
-  unfolding isForced
+  unfolding isForced forcesOne
   is-one p q = rw (p, q)
 
   lone : (laid one : Bool) (only-one : ℕ) → one ≡ not (eqb only-one 0) → pick laid 0 only-one ≡ pick (not laid && one) only-one 0
@@ -65,10 +65,10 @@ module _ (pieces : List ℕ) (rows cols : ℕ) (tiles : List ℕ) (count : ℕ) 
 
   -- where a place is forced, there is a colour; where it is not, the colour is 0
   one-colour : isForced pieces rows cols tiles count w o b ≡ true → eqb (only here) 0 ≡ false
-  unfolding isForced
+  unfolding isForced forcesOne
   one-colour e =
       not-true (eqb (only here) 0)
-      (sym (one-only count (lists (flat rows cols) tiles pieces (numberOf cols w o))) ∙ and-right (admits b w && onBoard rows cols w o && bare) _ e)
+      (sym (one-only count (lists (flat rows cols) tiles pieces (numberOf cols w o))) ∙ and-right bare _ (and-right (admits b w && onBoard rows cols w o) _ e))
 
   -- so the position that the colour gives is the definition's
   abbrev position : ℕ → ForcedPosition

@@ -5,17 +5,15 @@ use mathlib.Core.Path.{_≡_}
 use mathlib.Core.List.{List}
 use Rattle.base.specs.Refusal.{refusal}
 use Rattle.base.proofs.Chain.{coincide}
-use Rattle.rules.specs.Fit.{piecesChecks}
-use Rattle.rules.specs.Forced.{forcedNeighbours}
+use Rattle.rules.specs.Forced.{forcedChecks, forcedNeighbours}
 use Rattle.rules.specs.declared.World.{World}
 use Rattle.rules.specs.declared.Offset.{Offset}
 use Rattle.rules.specs.declared.GenerationBounds.{GenerationBounds}
 use Rattle.rules.specs.declared.ForcedAnswer.{ForcedAnswer}
-use Rattle.forced.specs.Round.{afterPieces}
 
 module _ (pieces : List ℕ) (rows cols : ℕ) (tiles : List ℕ) (count : ℕ) (w : World) (o : Offset) (b : GenerationBounds) where
-  pub forced-refused : {r s : ℕ} → r ≡ refusal (piecesChecks pieces rows cols tiles count (afterPieces rows cols w o b))
-      → s ≡ refusal (piecesChecks pieces rows cols tiles count (afterPieces rows cols w o b)) → r ≡ s
+  pub forced-refused : {r s : ℕ} → r ≡ refusal (forcedChecks pieces rows cols tiles count w o b)
+      → s ≡ refusal (forcedChecks pieces rows cols tiles count w o b) → r ≡ s
   forced-refused p q = coincide p q
 
   pub detect-forced-positions : {r s : ForcedAnswer} → r ≡ forcedNeighbours pieces rows cols tiles count w o b → s ≡ forcedNeighbours pieces rows cols tiles count w o b → r ≡ s

@@ -5,12 +5,9 @@ use mathlib.Core.Bool.{true}
 use mathlib.Core.List.{List, [], _∷_, _++_}
 use lib.Dec.{eqb}
 use Rattle.base.specs.Counting.{pick}
-use Rattle.base.specs.Refusal.{Checks, accepted, _unless_or_}
-use Rattle.rules.specs.Bounds.{PLACE}
 use Rattle.rules.specs.Tests.{onWall}
 use Rattle.rules.specs.Grid.{flat, numberOf}
-use Rattle.rules.specs.Fit.{placeChecks}
-use Rattle.rules.specs.Forced.{boundsFit, listedAt, only, isForced}
+use Rattle.rules.specs.Forced.{listedAt, only, isForced}
 use Rattle.rules.specs.declared.World.{World}
 use Rattle.rules.specs.declared.Offset.{Offset}
 use Rattle.rules.specs.declared.GenerationBounds.{GenerationBounds}
@@ -34,10 +31,3 @@ forcedColour pieces rows cols tiles count w o b =
 -- one position more, unless its colour is 0
 unfoldable pub withForced : List ForcedPosition → World → ℕ → List ForcedPosition
 withForced l w colour = l ++ pick (eqb colour 0) [] (record { coordinates = w; colour = colour } ∷ [])
-
--- the checks of the place and of the box, which follow those of the pieces and tiles
-abbrev pub afterPlace : GenerationBounds → Checks
-afterPlace b = PLACE unless boundsFit b or accepted
-
-abbrev pub afterPieces : ℕ → ℕ → World → Offset → GenerationBounds → Checks
-afterPieces rows cols w o b = placeChecks rows cols w o (afterPlace b)

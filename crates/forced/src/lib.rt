@@ -12,12 +12,11 @@ ghost use Rattle.base.specs.Refusal.{refusal};
 ghost use Rattle.rules.specs.Bounds.{addedRoom, minCoordinate, maxCoordinate};
 ghost use Rattle.rules.specs.Tests.{onWall};
 ghost use Rattle.rules.specs.Grid.{flat, laidOn};
-ghost use Rattle.rules.specs.Fit.{piecesChecks};
-ghost use Rattle.rules.specs.Forced.{neighbour, admits, boundsFit, listedAt, only, forcedRound, positionsOf, forcedNeighbours};
+ghost use Rattle.rules.specs.Forced.{neighbour, admits, boundsFit, listedAt, only, forcedRound, positionsOf, forcedChecks, forcedNeighbours};
 ghost use Rattle.rules.specs.declared.ForcedPosition.{ForcedPosition};
 ghost use Rattle.pattern.specs.Ready.{OnGrid};
 ghost use Rattle.windows.specs.Ready.{Ready};
-ghost use Rattle.forced.specs.Round.{Roundable, roundOrder, forcedColour, withForced, afterPieces};
+ghost use Rattle.forced.specs.Round.{Roundable, roundOrder, forcedColour, withForced};
 use rules::Cell;
 use rules::ForcedAnswer;
 use rules::ForcedPosition;
@@ -194,7 +193,7 @@ pub fn forced_refused(
     offset: Offset,
     bounds: GenerationBounds,
 ) -> u8
-    ensures { λ r. ⌜ r ≡ refusal (piecesChecks (now (pieces .entry)) rows cols (now (tiles .entry)) count (afterPieces rows cols position offset bounds)) ⌝ }
+    ensures { λ r. ⌜ r ≡ refusal (forcedChecks (now (pieces .entry)) rows cols (now (tiles .entry)) count position offset bounds) ⌝ }
 {
     let refused = fit::pieces_refused(pieces, rows, cols, tiles, count);
     if refused != 0 {

@@ -1,14 +1,11 @@
 // The calls on places, tiles and sets for tests in another language: each hands its call the numbers and slices that it is given and
 // tells its answer as crate boundary does.
 ghost use mathlib.Core.Path.{_≡_};
-ghost use lib.Ieee.{nan};
-ghost use Rattle.base.specs.Refusal.{Gives, accepted, _unless_or_};
-ghost use Rattle.rules.specs.Bounds.{NUMBER};
-ghost use Rattle.rules.specs.Floats.{one64, isNumber, allAre};
-ghost use Rattle.rules.specs.Places.{boxContains, extensionOf, boxedExtension};
+ghost use Rattle.base.specs.Refusal.{Gives, refusal};
+ghost use Rattle.rules.specs.Answers.{writtenAnswer};
+ghost use Rattle.rules.specs.Places.{boxContains, extensionOf, boxedExtension, wordCopyChecks, floatCopyChecks, afterWordCopy, afterFloatCopy};
 ghost use Rattle.rules.specs.Sets.{membersListed};
 ghost use Rattle.rules.specs.Tiles.{rotated, reflected, membership, extraction, storeAfter};
-ghost use Rattle.copies.specs.Copy.{copyAnswer, copyLeaves};
 ghost use Rattle.slots.specs.Slots.{world, offsetBy, setFrom};
 ghost use Rattle.boundary.specs.Boundary.{setNumber, setLeft, verdictNumber, verdictLeft, writtenNumber, tilesNumber, tilesLeft};
 ghost use Rattle.harness_tiles.specs.Lent.{boxOf, padsBy, nineOf, putFrom, extended, extensionNumber, extensionLeft, bytesWith, listLeft};
@@ -99,7 +96,7 @@ pub extern "C" fn port_extend_u32(
     bottom: usize,
     target: &mut [u32],
 ) -> u32
-    ensures { λ r. ⌜ Gives (writtenNumber (copyAnswer (now (plane .entry)) rows cols (padsBy left right top bottom) (now (target .entry)) accepted)) (copyLeaves 0 1 (now (plane .entry)) rows cols (padsBy left right top bottom) (now (target .entry)) accepted) r (now (target .exit)) ⌝ }
+    ensures { λ r. ⌜ Gives (writtenNumber (writtenAnswer (refusal (wordCopyChecks (now (plane .entry)) rows cols (padsBy left right top bottom) (now (target .entry)))))) (afterWordCopy (now (plane .entry)) rows cols (padsBy left right top bottom) (now (target .entry))) r (now (target .exit)) ⌝ }
 {
     let pads = Pads {
         left,
@@ -122,7 +119,7 @@ pub extern "C" fn port_extend_f64(
     bottom: usize,
     target: &mut [f64],
 ) -> u32
-    ensures { λ r. ⌜ Gives (writtenNumber (copyAnswer (now (plane .entry)) rows cols (padsBy left right top bottom) (now (target .entry)) (NUMBER unless allAre isNumber (now (plane .entry)) or accepted))) (copyLeaves nan one64 (now (plane .entry)) rows cols (padsBy left right top bottom) (now (target .entry)) (NUMBER unless allAre isNumber (now (plane .entry)) or accepted)) r (now (target .exit)) ⌝ }
+    ensures { λ r. ⌜ Gives (writtenNumber (writtenAnswer (refusal (floatCopyChecks (now (plane .entry)) rows cols (padsBy left right top bottom) (now (target .entry)))))) (afterFloatCopy (now (plane .entry)) rows cols (padsBy left right top bottom) (now (target .entry))) r (now (target .exit)) ⌝ }
 {
     let pads = Pads {
         left,

@@ -6,7 +6,7 @@ use mathlib.Core.List.{List}
 use lib.IntN.{_+ℤ_}
 use lib.ListN.{length}
 use Rattle.base.specs.Refusal.{accepted, refusal}
-use Rattle.rules.specs.Bounds.{maxBoardSide}
+use Rattle.rules.specs.Bounds.{maxBoardSide, maxCells}
 use Rattle.rules.specs.Answers.{spanAnswer}
 use Rattle.rules.specs.Places.{spanOf}
 use Rattle.rules.specs.Fit.{placeChecks}
@@ -29,7 +29,7 @@ pub record InRow (plane : List ℕ) (cols row from to : ℕ) : Type 0 where
   pub ordered : from ≤ to
   pub inside : to ≤ cols
   pub held : row * cols + cols ≤ length plane
-  pub short : length plane ≤ 4096
+  pub short : length plane ≤ maxCells
 
 -- the spans of radius 2 round a cell, their ends clipped to the sides
 pub record Nearby (rows cols : ℕ) (cell : Cell) (down across : Span) : Type 0 where

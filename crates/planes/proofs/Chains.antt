@@ -17,9 +17,9 @@ use Rattle.base.proofs.Chain.{passed, pass-by, refuse-by, no-check, _then_, sto
 use Rattle.rules.specs.Bounds.{LENGTH, TYPE, TAKEN, BARE}
 use Rattle.rules.specs.Tests.{boardSides, hasLength, tileNumber}
 use Rattle.rules.specs.Grid.{laidOn}
-use Rattle.rules.specs.Board.{freshChecks, freshBoard}
+use Rattle.rules.specs.Board.{freshChecks, freshBoard, layingChecks, liftingChecks}
 use Rattle.checks.proofs.Sides.{long}
-use Rattle.planes.specs.Planes.{board, lengthsChecks, layingChecks, liftingChecks}
+use Rattle.planes.specs.Planes.{board, lengthsChecks}
 
 -- the ways of the last checks
 module _ (pieces : List ℕ) (k count colour : ℕ) where

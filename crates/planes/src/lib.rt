@@ -5,10 +5,10 @@ ghost use Prim.Native.Nat.{ℕ, _+_, _*_, _≤_, _<_};
 ghost use lib.ListN.{length};
 ghost use Rattle.base.specs.Tables.{tab};
 ghost use Rattle.base.specs.Refusal.{Gives, refusal};
-ghost use Rattle.rules.specs.Bounds.{maxTiles};
+ghost use Rattle.rules.specs.Bounds.{maxCells, maxTiles};
 ghost use Rattle.rules.specs.Answers.{writtenAnswer};
-ghost use Rattle.rules.specs.Board.{freshChecks, afterFresh};
-ghost use Rattle.planes.specs.Planes.{board, number, lengthsChecks, contentsChecks, layingChecks, liftingChecks};
+ghost use Rattle.rules.specs.Board.{freshChecks, afterFresh, layingChecks, liftingChecks};
+ghost use Rattle.planes.specs.Planes.{board, number, lengthsChecks, contentsChecks};
 use checks::board_sides;
 use checks::cells_of;
 use checks::colour_count;
@@ -112,7 +112,7 @@ pub fn fresh(
 
 // TYPE and TAKEN of a lay on a cell of the board, 0 where both pass.
 pub fn laying_refused(pieces: &[u32], cols: usize, cell: Cell, count: u32, colour: u32) -> u8
-    requires { ⌜ (number cols cell < length (now pieces)) × (length (now pieces) ≤ 4096) ⌝ }
+    requires { ⌜ (number cols cell < length (now pieces)) × (length (now pieces) ≤ maxCells) ⌝ }
     ensures { λ r. ⌜ r ≡ refusal (layingChecks (now (pieces .entry)) (number cols cell) count colour) ⌝ }
 {
     if colour < 1 {
@@ -130,7 +130,7 @@ pub fn laying_refused(pieces: &[u32], cols: usize, cell: Cell, count: u32, colou
 
 // BARE of a lift on a cell of the board, 0 where a piece stands there.
 pub fn lifting_refused(pieces: &[u32], cols: usize, cell: Cell) -> u8
-    requires { ⌜ (number cols cell < length (now pieces)) × (length (now pieces) ≤ 4096) ⌝ }
+    requires { ⌜ (number cols cell < length (now pieces)) × (length (now pieces) ≤ maxCells) ⌝ }
     ensures { λ r. ⌜ r ≡ refusal (liftingChecks (now (pieces .entry)) (number cols cell)) ⌝ }
 {
     let k = cell.0 * cols + cell.1;

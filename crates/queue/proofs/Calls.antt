@@ -7,10 +7,10 @@ use mathlib.Core.Bool.{true}
 use mathlib.Core.List.{List}
 use lib.Dec.{eqb}
 use borrow.Author.Tests.{leb-true}
-use Rattle.base.specs.Refusal.{refusal}
+use Rattle.base.specs.Refusal.{accepted, refusal}
 use Rattle.base.proofs.Chain.{passed, _then_, stopped, then-go, numbered}
 use Rattle.rules.specs.Bounds.{queueRoom, addedRoom}
-use Rattle.rules.specs.Forced.{queued, offered, withPositions, queueChecks, addChecks, takenFrom, grownBy, queueEmpty, queueLength}
+use Rattle.rules.specs.Forced.{queued, offered, withPositions, queueChecks, entryChecks, roomChecks, addChecks, takenFrom, grownBy, queueEmpty, queueLength}
 use Rattle.rules.specs.declared.ForcedPosition.{ForcedPosition}
 use Rattle.rules.specs.declared.ForcedPositions.{ForcedPositions}
 use Rattle.rules.specs.declared.ForcedPipeline.{ForcedPipeline}
@@ -20,8 +20,7 @@ use Rattle.rules.specs.declared.Written.the-variants as Written·
 use Rattle.rules.specs.declared.Next.the-variants as Next·
 use Rattle.rules.specs.declared.Verdict.the-variants as Verdict·
 use Rattle.rules.specs.declared.Number.the-variants as Number·
-use Rattle.entries.specs.Unchecked.{Adding, roomChecks, grownTo, nextOut}
-use Rattle.queue.specs.Refusals.{entryChecks}
+use Rattle.entries.specs.Unchecked.{Adding, grownTo, nextOut}
 
 -- calls on a queue alone; n is what the checks answered
 module _ (q : ForcedPipeline) where
@@ -61,25 +60,25 @@ module _ (q : ForcedPipeline) (p : ForcedPositions) where
   abbrev all : List ForcedPosition
   all = withPositions (queued q) (offered p)
 
-  in-two : addChecks q p ≡ (entryChecks q p then roomChecks all)
+  in-two : addChecks q p ≡ (entryChecks q p accepted then roomChecks all)
   unfolding _then_
   in-two = refl
 
-  numbers : numbered (entryChecks q p) ≡ true
+  numbers : numbered (entryChecks q p accepted) ≡ true
   unfolding numbered
   numbers = refl
 
-  pub adding-of : {n : ℕ} → n ≡ refusal (entryChecks q p) → n ≡ 0 → Adding q p
+  pub adding-of : {n : ℕ} → n ≡ refusal (entryChecks q p accepted) → n ≡ 0 → Adding q p
   adding-of e z =
       let a = passed 0 _ _ (sym e ∙ z) in
       record { in-room = leb-true (q .len) queueRoom (a .0); few = leb-true (p .len) addedRoom (passed 0 _ _ (a .1) .0) }
 
-  pub grown-refused : (n : ℕ) → n ≡ refusal (entryChecks q p) → (n ≡ 0 → ⊥)
+  pub grown-refused : (n : ℕ) → n ≡ refusal (entryChecks q p accepted) → (n ≡ 0 → ⊥)
       → _≡_ {A = Grown} (record { answer = Written·.Refused n; queue = q }) (grownBy q p)
   unfolding grownBy
   grown-refused zero e h = absurd (h refl)
-  grown-refused (suc n) e h = rw (in-two, sym (stopped (suc n) (entryChecks q p) (roomChecks all) e h))
+  grown-refused (suc n) e h = rw (in-two, sym (stopped (suc n) (entryChecks q p accepted) (roomChecks all) e h))
 
-  pub grown : {n : ℕ} → n ≡ refusal (entryChecks q p) → n ≡ 0 → grownTo q all ≡ grownBy q p
+  pub grown : {n : ℕ} → n ≡ refusal (entryChecks q p accepted) → n ≡ 0 → grownTo q all ≡ grownBy q p
   unfolding grownBy grownTo
-  grown e z = rw (in-two, then-go (entryChecks q p) (roomChecks all) numbers (sym e ∙ z))
+  grown e z = rw (in-two, then-go (entryChecks q p accepted) (roomChecks all) numbers (sym e ∙ z))

@@ -6,12 +6,11 @@ use mathlib.Core.List.{List}
 use lib.Dec.{leb, ltb}
 use lib.ListN.{getD}
 use Rattle.base.specs.Counting.{pick}
-use Rattle.base.specs.Refusal.{Checks, accepted, _unless_or_}
-use Rattle.rules.specs.Bounds.{SHAPE, LENGTH, COUNT, CELL}
+use Rattle.base.specs.Refusal.{Checks, accepted}
 use Rattle.rules.specs.Grid.{flat, gap}
 use Rattle.rules.specs.Fit.{pattern, fitCount}
+use Rattle.rules.specs.Board.{countedContents, countedPlanes}
 use Rattle.rules.specs.declared.Cell.{Cell}
-use Rattle.rules.specs.Tests.{boardSides, hasLength, wholeTiles, tilesIn, colourCount, noneAbove, piecesStored}
 
 -- a region start (row, col) within distance 2 of a cell, whose region lies inside the grid
 abbrev pub startsNear : ℕ → ℕ → Cell → ℕ → ℕ → Bool
@@ -33,17 +32,7 @@ recountedAt tiles pieces rows cols cell l i =
     pick (isNear rows cols cell i) (fitCount tiles (pattern (flat rows cols) pieces i)) (getD l i 0)
 
 abbrev pub contentsChecks : List ℕ → List ℕ → List ℕ → ℕ → ℕ → Checks
-contentsChecks counts pieces tiles count n =
-    COUNT unless colourCount count
-    or CELL unless noneAbove tiles count
-    or CELL unless piecesStored pieces count
-    or CELL unless noneAbove counts n
-    or accepted
+contentsChecks counts pieces tiles count n = countedContents tiles count pieces counts n accepted
 
 abbrev pub planesChecks : List ℕ → List ℕ → ℕ → ℕ → List ℕ → ℕ → Checks
-planesChecks counts pieces rows cols tiles count =
-    SHAPE unless boardSides rows cols
-    or LENGTH unless hasLength counts (rows * cols)
-    or LENGTH unless hasLength pieces (rows * cols)
-    or LENGTH unless wholeTiles tiles
-    or contentsChecks counts pieces tiles count (tilesIn tiles)
+planesChecks counts pieces rows cols tiles count = countedPlanes counts pieces rows cols tiles count accepted

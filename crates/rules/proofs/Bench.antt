@@ -19,7 +19,7 @@ use Rattle.rules.specs.Sets.{has, bitsOf, coloursOf, membersOf}
 use Rattle.rules.specs.Tiles.{sampleCell, windowTile, rotated, reflected, turned, form, variant, sameTile, hasTile, withTile, distinct, extracted, extraction, storeAfter, storeWith}
 use Rattle.rules.specs.Grid.{cellNumber, flat, numberOf}
 use Rattle.rules.specs.Fit.{agrees, fitsTile, fitCount, hasFitting, allows, leftAfter, listing}
-use Rattle.rules.specs.Forced.{neighbour, admits, boundsFit, isForced, forcedThere, forcedRound, padded, positionsOf, forcedNeighbours, deadAt, deadEnd}
+use Rattle.rules.specs.Forced.{neighbour, admits, boundsFit, forcesOne, isForced, forcedThere, forcedRound, padded, positionsOf, forcedNeighbours, deadAt, deadEnd}
 use Rattle.rules.specs.Probabilities.{largestOf, totalOf, normalised}
 use Rattle.rules.specs.Board.{Job, Board, raised, lowered, recounted, laid, lifted, freshBoard, afterLay, afterLift}
 use Rattle.rules.specs.declared.World.{World}
@@ -175,5 +175,5 @@ hold [] = true
 hold (x ∷ xs) = same (x .got) (x .due) && hold xs
 
 pub bench : hold table ≡ true
-unfolding hold same table every some sum tally first within tab those fold refusal withinZ boardSides sampleSides hasLength tileNumber wholeTiles colourCount noneAbove piecesStored onWall offsetFits onBoard cellOf spanOf firstOf lastOf padBefore padAfter boxedBefore boxedAfter padsOf boxedPads extensionBy extensionOf boxedExtension has bitsOf coloursOf sampleCell windowTile rotated reflected turned form variant sameTile hasTile withTile distinct extracted extraction storeAfter storeWith cellNumber flat numberOf agrees fitsTile fitCount hasFitting allows leftAfter listing neighbour admits boundsFit isForced forcedThere forcedRound padded positionsOf forcedNeighbours deadAt deadEnd largestOf totalOf normalised raised lowered recounted laid lifted freshBoard afterLay afterLift lt le add mul div ofBits ofInt toBits
+unfolding hold same table every some sum tally first within tab those fold refusal withinZ boardSides sampleSides hasLength tileNumber wholeTiles colourCount noneAbove piecesStored onWall offsetFits onBoard cellOf spanOf firstOf lastOf padBefore padAfter boxedBefore boxedAfter padsOf boxedPads extensionBy extensionOf boxedExtension has bitsOf coloursOf sampleCell windowTile rotated reflected turned form variant sameTile hasTile withTile distinct extracted extraction storeAfter storeWith cellNumber flat numberOf agrees fitsTile fitCount hasFitting allows leftAfter listing neighbour admits boundsFit forcesOne isForced forcedThere forcedRound padded positionsOf forcedNeighbours deadAt deadEnd largestOf totalOf normalised raised lowered recounted laid lifted freshBoard afterLay afterLift lt le add mul div ofBits ofInt toBits
 bench = refl

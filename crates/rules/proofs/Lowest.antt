@@ -1,36 +1,35 @@
 -- Document 01, "Refusal numbers, lowest first when several hold": in every call's list of checks the numbers ascend, so what is answered
 -- is the lowest number of all checks that fail. One law over a list whose numbers ascend, by computation; then each call's list.
 -- Assumes nothing.
-use Prim.Native.Nat.{ℕ, _≤_}
+use Prim.Native.Nat.{ℕ, zero, suc, _<_, _≤_}
 use mathlib.Core.Bool.{Bool, true, _&&_}
 use mathlib.Core.Path.{_≡_, refl}
 use mathlib.Core.List.{List}
+use native.Mathlib.Omega.{arith}
 use lib.Dec.{leb}
 use lib.Ieee.{Float}
 use borrow.Author.Tests.{leb-true}
 use Rattle.base.specs.Refusal.{Checks, accepted, _unless_or_, refusal}
 use Rattle.base.proofs.Bools.{and-left, and-right}
-use Rattle.base.proofs.Chain.{Ascends, none, more, Fails, lowest}
-use Rattle.rules.specs.Bounds.{COUNT, CELL, PLACE, NUMBER}
-use Rattle.rules.specs.Tests.{colourCount, noneAbove}
-use Rattle.rules.specs.Places.{spanChecks, boxFits, boxChecks, extensionChecks, copyChecks}
-use Rattle.rules.specs.Sets.{setChecks, setsChecks}
-use Rattle.rules.specs.Tiles.{sampleChecks, roomCheck}
-use Rattle.rules.specs.Fit.{piecesChecks, placeChecks}
-use Rattle.rules.specs.Forced.{boundsFit, queueChecks, addChecks, scanChecks}
+use Rattle.base.proofs.Chain.{Ascends, none, more, Fails, lowest, numbered}
+use Rattle.rules.specs.Places.{spanChecks, boxChecks, extensionChecks, boxedExtensionChecks, wordCopyChecks, floatCopyChecks}
+use Rattle.rules.specs.Sets.{newSetChecks, setChecks, setsChecks}
+use Rattle.rules.specs.Tiles.{membershipChecks, extractionChecks}
+use Rattle.rules.specs.Fit.{listingChecks, regionChecks}
+use Rattle.rules.specs.Forced.{forcedChecks, queueChecks, addChecks, scanChecks}
 use Rattle.rules.specs.Scores.{fractionChecks, layScoreChecks, liftScoreChecks}
 use Rattle.rules.specs.Probabilities.{Block, normaliseChecks, influenceChecks}
 use Rattle.rules.specs.Board.{Job, Board, freshChecks, layChecks, liftChecks, weightChecks, recountChecks}
 use Rattle.rules.specs.declared.World.{World}
 use Rattle.rules.specs.declared.Offset.{Offset}
 use Rattle.rules.specs.declared.Cell.{Cell}
 use Rattle.rules.specs.declared.Span.{Span}
 use Rattle.rules.specs.declared.Pads.{Pads}
 use Rattle.rules.specs.declared.BoundingBox.{BoundingBox}
 use Rattle.rules.specs.declared.GenerationBounds.{GenerationBounds}
 use Rattle.rules.specs.declared.TileBitset.{TileBitset}
 use Rattle.rules.specs.declared.ForcedPositions.{ForcedPositions}
 use Rattle.rules.specs.declared.ForcedPipeline.{ForcedPipeline}
 
 abbrev ascending : ℕ → Checks → Bool
 ascending lo accepted = true
@@ -41,12 +40,22 @@ ascends lo accepted e = none
 ascends lo (n unless b or cs) e =
     more (leb-true lo n (and-left (leb lo n) (ascending n cs) e)) (ascends n cs (and-right (leb lo n) (ascending n cs) e))
 
--- what is answered is no higher than the number of any check that fails
+-- where a check fails there is a refusal, and its number is no higher than that of the check
 abbrev pub Lowest : Checks → Type 0
-Lowest cs = (m : ℕ) → Fails m cs → refusal cs ≤ m
+Lowest cs = (m : ℕ) → Fails m cs → (refusal cs ≤ m) × (0 < refusal cs)
+
+-- numbers that ascend from 1 on are not 0
+no-zero : (lo : ℕ) (cs : Checks) → ascending (suc lo) cs ≡ true → numbered cs ≡ true
+unfolding numbered
+no-zero lo accepted e = refl
+no-zero lo (zero unless b or cs) e = absurd (out (leb-true (suc lo) zero (and-left (leb (suc lo) zero) (ascending zero cs) e)))
+  where
+    out : suc lo ≤ 0 → ⊥
+    out h = omega arith
+no-zero lo (suc n unless b or cs) e = no-zero n cs (and-right (leb (suc lo) (suc n)) (ascending (suc n) cs) e)
 
 by-order : (cs : Checks) → ascending 1 cs ≡ true → Lowest cs
-by-order cs e m f = lowest {lo = 1} cs (ascends 1 cs e) f .0
+by-order cs e m f = let l = lowest {lo = 1} cs (ascends 1 cs e) f in (l .0, l .1 (no-zero 0 cs e))
 
 -- ---- places
 
@@ -59,18 +68,18 @@ contains-lowest b w = by-order _ refl
 pub extension-lowest : (rows cols : ℕ) (o : Offset) (w : World) (k : ℕ) → Lowest (extensionChecks rows cols o w k accepted)
 extension-lowest rows cols o w k = by-order _ refl
 
-pub boxed-extension-lowest : (rows cols : ℕ) (o : Offset) (w : World) (k : ℕ) (b : BoundingBox) → Lowest (extensionChecks rows cols o w k (PLACE unless boxFits b or accepted))
+pub boxed-extension-lowest : (rows cols : ℕ) (o : Offset) (w : World) (k : ℕ) (b : BoundingBox) → Lowest (boxedExtensionChecks rows cols o w k b)
 boxed-extension-lowest rows cols o w k b = by-order _ refl
 
-pub copy-lowest : (plane : List ℕ) (rows cols : ℕ) (p : Pads) (target : List ℕ) → Lowest (copyChecks plane rows cols p target accepted)
+pub copy-lowest : (plane : List ℕ) (rows cols : ℕ) (p : Pads) (target : List ℕ) → Lowest (wordCopyChecks plane rows cols p target)
 copy-lowest plane rows cols p target = by-order _ refl
 
-pub float-copy-lowest : (plane : List Float) (rows cols : ℕ) (p : Pads) (target : List Float) (b : Bool) → Lowest (copyChecks plane rows cols p target (NUMBER unless b or accepted))
-float-copy-lowest plane rows cols p target b = by-order _ refl
+pub float-copy-lowest : (plane : List Float) (rows cols : ℕ) (p : Pads) (target : List Float) → Lowest (floatCopyChecks plane rows cols p target)
+float-copy-lowest plane rows cols p target = by-order _ refl
 
 -- ---- sets and tiles
 
-pub new-set-lowest : (size : ℕ) → Lowest (COUNT unless colourCount size or accepted)
+pub new-set-lowest : (size : ℕ) → Lowest (newSetChecks size)
 new-set-lowest size = by-order _ refl
 
 pub set-lowest : (s : TileBitset) → Lowest (setChecks s)
@@ -79,21 +88,21 @@ set-lowest s = by-order _ refl
 pub sets-lowest : (s u : TileBitset) → Lowest (setsChecks s u)
 sets-lowest s u = by-order _ refl
 
-pub membership-lowest : (tile : List ℕ) (count : ℕ) → Lowest (COUNT unless colourCount count or CELL unless noneAbove tile count or accepted)
+pub membership-lowest : (tile : List ℕ) (count : ℕ) → Lowest (membershipChecks tile count)
 membership-lowest tile count = by-order _ refl
 
-pub extraction-lowest : (sample : List ℕ) (rows cols count : ℕ) (tiles store : List ℕ) → Lowest (sampleChecks sample rows cols count (roomCheck tiles store))
-extraction-lowest sample rows cols count tiles store = by-order _ refl
+pub extraction-lowest : (sample : List ℕ) (rows cols count : ℕ) (rotations reflections : Bool) (store : List ℕ) → Lowest (extractionChecks sample rows cols count rotations reflections store)
+extraction-lowest sample rows cols count rotations reflections store = by-order _ refl
 
 -- ---- fit, forced neighbours, the queue, the scan
 
-pub listing-lowest : (pieces : List ℕ) (rows cols : ℕ) (tiles : List ℕ) (count : ℕ) (w : World) (o : Offset) → Lowest (piecesChecks pieces rows cols tiles count (placeChecks rows cols w o accepted))
+pub listing-lowest : (pieces : List ℕ) (rows cols : ℕ) (tiles : List ℕ) (count : ℕ) (w : World) (o : Offset) → Lowest (listingChecks pieces rows cols tiles count w o)
 listing-lowest pieces rows cols tiles count w o = by-order _ refl
 
-pub region-lowest : (pieces : List ℕ) (rows cols : ℕ) (tiles : List ℕ) (count : ℕ) (b : Bool) → Lowest (piecesChecks pieces rows cols tiles count (PLACE unless b or accepted))
-region-lowest pieces rows cols tiles count b = by-order _ refl
+pub region-lowest : (pieces : List ℕ) (rows cols : ℕ) (tiles : List ℕ) (count : ℕ) (s : Cell) → Lowest (regionChecks pieces rows cols tiles count s)
+region-lowest pieces rows cols tiles count s = by-order _ refl
 
-pub forced-lowest : (pieces : List ℕ) (rows cols : ℕ) (tiles : List ℕ) (count : ℕ) (w : World) (o : Offset) (b : GenerationBounds) → Lowest (piecesChecks pieces rows cols tiles count (placeChecks rows cols w o (PLACE unless boundsFit b or accepted)))
+pub forced-lowest : (pieces : List ℕ) (rows cols : ℕ) (tiles : List ℕ) (count : ℕ) (w : World) (o : Offset) (b : GenerationBounds) → Lowest (forcedChecks pieces rows cols tiles count w o b)
 forced-lowest pieces rows cols tiles count w o b = by-order _ refl
 
 pub queue-lowest : (q : ForcedPipeline) → Lowest (queueChecks q)

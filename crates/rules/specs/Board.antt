@@ -7,12 +7,15 @@ use lib.ListN.{length, getD, set}
 use Rattle.base.specs.Counting.{pick, sum, within}
 use Rattle.base.specs.Tables.{tab}
 use Rattle.base.specs.Refusal.{Checks, accepted, _unless_or_, refusal, unlessRefused}
-use Rattle.rules.specs.Bounds.{maxWeight, bare, SHAPE, LENGTH, COUNT, CELL, TYPE, TAKEN, BARE}
-use Rattle.rules.specs.Tests.{boardSides, hasLength, wholeTiles, tilesIn, tileNumber, colourCount, noneAbove, piecesStored}
+use Rattle.rules.specs.Bounds.{maxWeight, bare, SHAPE, LENGTH, CELL, TYPE, TAKEN, BARE}
+use Rattle.rules.specs.Tests.{boardSides, hasLength, wholeTiles, tilesIn, tileNumber, noneAbove}
+use Rattle.rules.specs.Answers.{layAnswer, liftAnswer}
 use Rattle.rules.specs.Grid.{Shape, flat, numberOf, laidOn}
-use Rattle.rules.specs.Fit.{pattern, fitCount, placeChecks}
+use Rattle.rules.specs.Fit.{pattern, fitCount, contentsChecks, placeChecks}
 use Rattle.rules.specs.declared.World.{World}
 use Rattle.rules.specs.declared.Offset.{Offset}
+use Rattle.rules.specs.declared.LayAnswer.{LayAnswer}
+use Rattle.rules.specs.declared.LiftAnswer.{LiftAnswer}
 
 -- what stays fixed while a board is in use
 pub record Job : Type 0 where
@@ -89,34 +92,54 @@ freshBoard cells tiles =
 
 -- ---- the calls
 
+-- the sides of a board, and the lengths of its planes
+abbrev pub boardLengths : ℕ → ℕ → Board → Checks → Checks
+boardLengths rows cols b more =
+    SHAPE unless boardSides rows cols
+    or LENGTH unless hasLength (b .pieces) (rows * cols)
+    or LENGTH unless hasLength (b .weights) (rows * cols)
+    or LENGTH unless hasLength (b .counts) (rows * cols)
+    or more
+
+-- what its planes and tiles hold, of which there are n
+abbrev pub boardContents : List ℕ → ℕ → Board → ℕ → Checks → Checks
+boardContents tiles count b n more =
+    contentsChecks tiles count (b .pieces)
+    (CELL unless noneAbove (b .weights) maxWeight
+    or CELL unless noneAbove (b .counts) n
+    or more)
+
 abbrev pub boardChecks : Job → Board → Checks → Checks
 boardChecks j b more =
-    SHAPE unless boardSides (j .rows) (j .cols)
-    or LENGTH unless hasLength (b .pieces) (j .rows * j .cols)
-    or LENGTH unless hasLength (b .weights) (j .rows * j .cols)
-    or LENGTH unless hasLength (b .counts) (j .rows * j .cols)
-    or LENGTH unless wholeTiles (j .tiles)
-    or COUNT unless colourCount (j .count)
-    or CELL unless noneAbove (j .tiles) (j .count)
-    or CELL unless piecesStored (b .pieces) (j .count)
-    or CELL unless noneAbove (b .weights) maxWeight
-    or CELL unless noneAbove (b .counts) (tilesIn (j .tiles))
-    or more
+    boardLengths (j .rows) (j .cols) b
+    (LENGTH unless wholeTiles (j .tiles)
+    or boardContents (j .tiles) (j .count) b (tilesIn (j .tiles)) more)
+
+-- what a lay of a colour, and what a lift, asks of cell k
+abbrev pub layingChecks : List ℕ → ℕ → ℕ → ℕ → Checks
+layingChecks pieces k count colour =
+    TYPE unless within 1 count colour
+    or TAKEN unless not (laidOn pieces k)
+    or accepted
+
+abbrev pub liftingChecks : List ℕ → ℕ → Checks
+liftingChecks pieces k = BARE unless laidOn pieces k or accepted
 
 abbrev pub layChecks : Job → Board → World → ℕ → Checks
 layChecks j b w colour =
     boardChecks j b
     (placeChecks (j .rows) (j .cols) w (j .offset)
-    (TYPE unless within 1 (j .count) colour
-    or TAKEN unless not (laidOn (b .pieces) (cellIn j w))
-    or accepted))
+    (layingChecks (b .pieces) (cellIn j w) (j .count) colour))
 
 abbrev pub liftChecks : Job → Board → World → Checks
-liftChecks j b w =
-    boardChecks j b
-    (placeChecks (j .rows) (j .cols) w (j .offset)
-    (BARE unless laidOn (b .pieces) (cellIn j w)
-    or accepted))
+liftChecks j b w = boardChecks j b (placeChecks (j .rows) (j .cols) w (j .offset) (liftingChecks (b .pieces) (cellIn j w)))
+
+-- what a lay and a lift answer
+abbrev pub laying : Job → Board → World → ℕ → LayAnswer
+laying j b w colour = layAnswer (refusal (layChecks j b w colour))
+
+abbrev pub lifting : Job → Board → World → LiftAnswer
+lifting j b w = liftAnswer (refusal (liftChecks j b w))
 
 -- the board that a call leaves; a refused call changes nothing
 unfoldable pub afterLay : Job → Board → World → ℕ → Board
@@ -126,24 +149,21 @@ unfoldable pub afterLift : Job → Board → World → Board
 afterLift j b w = unlessRefused (refusal (liftChecks j b w)) (lifted (shapeOf j) (j .tiles) b (cellIn j w)) b
 
 abbrev pub freshChecks : ℕ → ℕ → ℕ → Board → Checks
-freshChecks rows cols tiles b =
-    SHAPE unless boardSides rows cols
-    or LENGTH unless hasLength (b .pieces) (rows * cols)
-    or LENGTH unless hasLength (b .weights) (rows * cols)
-    or LENGTH unless hasLength (b .counts) (rows * cols)
-    or LENGTH unless tileNumber tiles
-    or accepted
+freshChecks rows cols tiles b = boardLengths rows cols b (LENGTH unless tileNumber tiles or accepted)
 
 unfoldable pub afterFresh : ℕ → ℕ → ℕ → Board → Board
 afterFresh rows cols tiles b = unlessRefused (refusal (freshChecks rows cols tiles b)) (freshBoard (rows * cols) tiles) b
 
 -- the ported steps of their own: weights up and down, and the recount
-abbrev pub weightChecks : List ℕ → ℕ → ℕ → World → Offset → Checks
-weightChecks weights rows cols w o =
+abbrev pub weightPlaneChecks : List ℕ → ℕ → ℕ → Checks → Checks
+weightPlaneChecks weights rows cols more =
     SHAPE unless boardSides rows cols
     or LENGTH unless hasLength weights (rows * cols)
     or CELL unless noneAbove weights maxWeight
-    or placeChecks rows cols w o accepted
+    or more
+
+abbrev pub weightChecks : List ℕ → ℕ → ℕ → World → Offset → Checks
+weightChecks weights rows cols w o = weightPlaneChecks weights rows cols (placeChecks rows cols w o accepted)
 
 unfoldable pub afterRaise : List ℕ → ℕ → ℕ → World → Offset → List ℕ
 afterRaise weights rows cols w o =
@@ -153,17 +173,20 @@ unfoldable pub afterLower : List ℕ → ℕ → ℕ → World → Offset → Li
 afterLower weights rows cols w o =
     unlessRefused (refusal (weightChecks weights rows cols w o)) (lowered (flat rows cols) (numberOf cols w o) weights) weights
 
-abbrev pub recountChecks : List ℕ → List ℕ → ℕ → ℕ → List ℕ → ℕ → World → Offset → Checks
-recountChecks counts pieces rows cols tiles count w o =
+abbrev pub countedContents : List ℕ → ℕ → List ℕ → List ℕ → ℕ → Checks → Checks
+countedContents tiles count pieces counts n more = contentsChecks tiles count pieces (CELL unless noneAbove counts n or more)
+
+abbrev pub countedPlanes : List ℕ → List ℕ → ℕ → ℕ → List ℕ → ℕ → Checks → Checks
+countedPlanes counts pieces rows cols tiles count more =
     SHAPE unless boardSides rows cols
     or LENGTH unless hasLength counts (rows * cols)
     or LENGTH unless hasLength pieces (rows * cols)
     or LENGTH unless wholeTiles tiles
-    or COUNT unless colourCount count
-    or CELL unless noneAbove tiles count
-    or CELL unless piecesStored pieces count
-    or CELL unless noneAbove counts (tilesIn tiles)
-    or placeChecks rows cols w o accepted
+    or countedContents tiles count pieces counts (tilesIn tiles) more
+
+abbrev pub recountChecks : List ℕ → List ℕ → ℕ → ℕ → List ℕ → ℕ → World → Offset → Checks
+recountChecks counts pieces rows cols tiles count w o =
+    countedPlanes counts pieces rows cols tiles count (placeChecks rows cols w o accepted)
 
 unfoldable pub afterRecount : List ℕ → List ℕ → ℕ → ℕ → List ℕ → ℕ → World → Offset → List ℕ
 afterRecount counts pieces rows cols tiles count w o =

@@ -11,6 +11,10 @@ maxSampleSide = 32
 abbrev pub maxBoardSide : ℕ
 maxBoardSide = 64
 
+-- 64 rows of 64 columns
+abbrev pub maxCells : ℕ
+maxCells = 4096
+
 abbrev pub maxTiles : ℕ
 maxTiles = 7200
 

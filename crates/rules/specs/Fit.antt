@@ -14,6 +14,7 @@ use Rattle.rules.specs.Grid.{Shape, flat, numberOf, colourOn}
 use Rattle.rules.specs.declared.World.{World}
 use Rattle.rules.specs.declared.Offset.{Offset}
 use Rattle.rules.specs.declared.Cell.{Cell}
+use Rattle.rules.specs.declared.TileBitset.{TileBitset}
 use Rattle.rules.specs.declared.Listing.{Listing}
 use Rattle.rules.specs.declared.Number.{Number}
 
@@ -35,10 +36,11 @@ fitsTile tiles shown n = every tileCells (agreesAt tiles shown n)
 unfoldable pub fitCount : List ℕ → (ℕ → ℕ) → ℕ
 fitCount tiles shown = tally (tilesIn tiles) (fitsTile tiles shown)
 
--- there is a fitting tile with colour t at place q
+-- tile n fits and has colour t at place q
 abbrev pub serves : List ℕ → (ℕ → ℕ) → ℕ → ℕ → ℕ → Bool
 serves tiles shown q t n = fitsTile tiles shown n && eqb t (getD tiles (n * tileCells + q) 0)
 
+-- there is such a tile
 unfoldable pub hasFitting : List ℕ → (ℕ → ℕ) → ℕ → ℕ → Bool
 hasFitting tiles shown q t = some (tilesIn tiles) (serves tiles shown q t)
 
@@ -60,16 +62,20 @@ leftAfter g tiles pieces k n t = every n (λ i. allows g tiles pieces k t (getD 
 abbrev pub lists : Shape → List ℕ → List ℕ → ℕ → ℕ → Bool
 lists g tiles pieces k t = leftAfter g tiles pieces k 9 t
 
--- the checks of every call that reads pieces and tiles
+-- the checks of every call that reads pieces and tiles: what they hold, after their lengths
+abbrev pub contentsChecks : List ℕ → ℕ → List ℕ → Checks → Checks
+contentsChecks tiles count pieces more =
+    COUNT unless colourCount count
+    or CELL unless noneAbove tiles count
+    or CELL unless piecesStored pieces count
+    or more
+
 abbrev pub piecesChecks : List ℕ → ℕ → ℕ → List ℕ → ℕ → Checks → Checks
 piecesChecks pieces rows cols tiles count more =
     SHAPE unless boardSides rows cols
     or LENGTH unless hasLength pieces (rows * cols)
     or LENGTH unless wholeTiles tiles
-    or COUNT unless colourCount count
-    or CELL unless noneAbove tiles count
-    or CELL unless piecesStored pieces count
-    or more
+    or contentsChecks tiles count pieces more
 
 -- the checks of a place that has to lie on the board
 abbrev pub placeChecks : ℕ → ℕ → World → Offset → Checks → Checks
@@ -79,15 +85,26 @@ placeChecks rows cols w o more =
     or PLACE unless onBoard rows cols w o
     or more
 
+abbrev pub listingChecks : List ℕ → ℕ → ℕ → List ℕ → ℕ → World → Offset → Checks
+listingChecks pieces rows cols tiles count w o = piecesChecks pieces rows cols tiles count (placeChecks rows cols w o accepted)
+
+-- what a listing of cell k finds
+abbrev pub foundAt : Shape → List ℕ → List ℕ → ℕ → ℕ → TileBitset
+foundAt g tiles pieces count k = setOf count (lists g tiles pieces k)
+
 unfoldable pub listing : List ℕ → ℕ → ℕ → List ℕ → ℕ → World → Offset → Listing
 listing pieces rows cols tiles count w o =
     listingAnswer
-    (refusal (piecesChecks pieces rows cols tiles count (placeChecks rows cols w o accepted)))
-    (setOf count (lists (flat rows cols) tiles pieces (numberOf cols w o)))
+    (refusal (listingChecks pieces rows cols tiles count w o))
+    (foundAt (flat rows cols) tiles pieces count (numberOf cols w o))
+
+abbrev pub regionChecks : List ℕ → ℕ → ℕ → List ℕ → ℕ → Cell → Checks
+regionChecks pieces rows cols tiles count s =
+    piecesChecks pieces rows cols tiles count (PLACE unless ltb (s .0) rows && ltb (s .1) cols or accepted)
 
 -- the number of tiles that fit the region that starts at a cell; past the edge it is bare
 unfoldable pub regionCount : List ℕ → ℕ → ℕ → List ℕ → ℕ → Cell → Number
 regionCount pieces rows cols tiles count s =
     numberAnswer
-    (refusal (piecesChecks pieces rows cols tiles count (PLACE unless ltb (s .0) rows && ltb (s .1) cols or accepted)))
+    (refusal (regionChecks pieces rows cols tiles count s))
     (fitCount tiles (pattern (flat rows cols) pieces (s .0 * cols + s .1)))

@@ -8,13 +8,13 @@ use lib.IntN.{pos, _+ℤ_, _-ℤ_}
 use Rattle.base.specs.Counting.{pick, first}
 use Rattle.base.specs.Tables.{those, fold}
 use Rattle.base.specs.Refusal.{Checks, accepted, _unless_or_, refusal, unlessRefused}
-use Rattle.rules.specs.Bounds.{maxWeight, queueRoom, addedRoom, SHAPE, LENGTH, COUNT, CELL, PLACE, ROOM}
-use Rattle.rules.specs.Tests.{boardSides, hasLength, wholeTiles, colourCount, noneAbove, piecesStored, onWall, onBoard}
+use Rattle.rules.specs.Bounds.{maxWeight, queueRoom, addedRoom, SHAPE, LENGTH, CELL, PLACE, ROOM}
+use Rattle.rules.specs.Tests.{boardSides, hasLength, wholeTiles, noneAbove, onWall, onBoard}
 use Rattle.rules.specs.Answers.{verdictAnswer, numberAnswer, writtenAnswer, deadEndAnswer, nextAnswer}
 use Rattle.rules.specs.Places.{samePlace, inBox, boxFits}
 use Rattle.rules.specs.Sets.{coloursOf}
 use Rattle.rules.specs.Grid.{Shape, flat, numberOf, laidOn}
-use Rattle.rules.specs.Fit.{lists, piecesChecks, placeChecks}
+use Rattle.rules.specs.Fit.{lists, contentsChecks, piecesChecks, placeChecks}
 use Rattle.rules.specs.declared.World.{World}
 use Rattle.rules.specs.declared.Offset.{Offset}
 use Rattle.rules.specs.declared.GenerationBounds.{GenerationBounds}
@@ -55,13 +55,14 @@ only [] = 0
 only (t ∷ []) = t
 only (t ∷ u ∷ l) = 0
 
+-- cell k is bare and lists one colour only
+unfoldable pub forcesOne : Shape → List ℕ → List ℕ → ℕ → ℕ → Bool
+forcesOne g tiles pieces count k = not (laidOn pieces k) && eqb (length (listedAt g tiles pieces count k)) 1
+
 -- omitted are those outside the box or the grid, those laid, and those with other than one listed colour
 unfoldable pub isForced : List ℕ → ℕ → ℕ → List ℕ → ℕ → World → Offset → GenerationBounds → Bool
 isForced pieces rows cols tiles count w o b =
-    admits b w
-    && onBoard rows cols w o
-    && not (laidOn pieces (numberOf cols w o))
-    && eqb (length (listedAt (flat rows cols) tiles pieces count (numberOf cols w o))) 1
+    admits b w && onBoard rows cols w o && forcesOne (flat rows cols) tiles pieces count (numberOf cols w o)
 
 unfoldable pub forcedThere : List ℕ → ℕ → ℕ → List ℕ → ℕ → World → Offset → ForcedPosition
 forcedThere pieces rows cols tiles count w o =
@@ -83,9 +84,16 @@ padded room l = l ++ replicate (room - length l) noPosition
 unfoldable pub positionsOf : List ForcedPosition → ForcedPositions
 positionsOf l = record { entries = padded addedRoom l; len = length l }
 
+abbrev pub boundsChecks : GenerationBounds → Checks
+boundsChecks b = PLACE unless boundsFit b or accepted
+
+abbrev pub forcedChecks : List ℕ → ℕ → ℕ → List ℕ → ℕ → World → Offset → GenerationBounds → Checks
+forcedChecks pieces rows cols tiles count w o b =
+    piecesChecks pieces rows cols tiles count (placeChecks rows cols w o (boundsChecks b))
+
 unfoldable pub forcedNeighbours : List ℕ → ℕ → ℕ → List ℕ → ℕ → World → Offset → GenerationBounds → ForcedAnswer
 forcedNeighbours pieces rows cols tiles count w o b =
-    let n : ℕ = refusal (piecesChecks pieces rows cols tiles count (placeChecks rows cols w o (PLACE unless boundsFit b or accepted))) in
+    let n : ℕ = refusal (forcedChecks pieces rows cols tiles count w o b) in
     record { refused = n; found = positionsOf (unlessRefused n (forcedRound pieces rows cols tiles count w o b) []) }
 
 -- ---- the queue: first in, first out. Its entries stand from entry 0, next out first; those past its length are not read
@@ -121,14 +129,21 @@ queueChecks q =
     or PLACE unless allOnWall (queued q)
     or accepted
 
-abbrev pub addChecks : ForcedPipeline → ForcedPositions → Checks
-addChecks q p =
+-- what an adding checks on entry, before it knows how many places are new
+abbrev pub entryChecks : ForcedPipeline → ForcedPositions → Checks → Checks
+entryChecks q p more =
     SHAPE unless leb (q .len) queueRoom
     or SHAPE unless leb (p .len) addedRoom
     or PLACE unless allOnWall (queued q)
     or PLACE unless allOnWall (offered p)
-    or ROOM unless leb (length (withPositions (queued q) (offered p))) queueRoom
-    or accepted
+    or more
+
+-- then ROOM, for a queue of these entries
+abbrev pub roomChecks : List ForcedPosition → Checks
+roomChecks l = ROOM unless leb (length l) queueRoom or accepted
+
+abbrev pub addChecks : ForcedPipeline → ForcedPositions → Checks
+addChecks q p = entryChecks q p (roomChecks (withPositions (queued q) (offered p)))
 
 unfoldable pub grownBy : ForcedPipeline → ForcedPositions → Grown
 grownBy q p =
@@ -153,17 +168,17 @@ unfoldable pub deadAt : Shape → List ℕ → List ℕ → List ℕ → ℕ →
 deadAt g tiles pieces weights count k =
     not (laidOn pieces k) && ltb 1 (getD weights k 0) && eqb (length (listedAt g tiles pieces count k)) 0
 
-abbrev pub scanChecks : List ℕ → List ℕ → ℕ → ℕ → List ℕ → ℕ → Checks
-scanChecks pieces weights rows cols tiles count =
+abbrev pub scanLengths : List ℕ → List ℕ → ℕ → ℕ → List ℕ → Checks → Checks
+scanLengths pieces weights rows cols tiles more =
     SHAPE unless boardSides rows cols
     or LENGTH unless hasLength pieces (rows * cols)
     or LENGTH unless hasLength weights (rows * cols)
     or LENGTH unless wholeTiles tiles
-    or COUNT unless colourCount count
-    or CELL unless noneAbove tiles count
-    or CELL unless piecesStored pieces count
-    or CELL unless noneAbove weights maxWeight
-    or accepted
+    or more
+
+abbrev pub scanChecks : List ℕ → List ℕ → ℕ → ℕ → List ℕ → ℕ → Checks
+scanChecks pieces weights rows cols tiles count =
+    scanLengths pieces weights rows cols tiles (contentsChecks tiles count pieces (CELL unless noneAbove weights maxWeight or accepted))
 
 unfoldable pub deadEnd : List ℕ → List ℕ → ℕ → ℕ → List ℕ → ℕ → DeadEnd
 deadEnd pieces weights rows cols tiles count =

@@ -6,13 +6,15 @@ use lib.Dec.{leb, ltb}
 use lib.ListN.{getD}
 use lib.IntN.{ℤ, pos, _+ℤ_, _-ℤ_}
 use lib.Signed.{leZ}
+use lib.Ieee.{Float, nan}
 use Rattle.base.specs.Counting.{pick}
 use Rattle.base.specs.Tables.{tab}
 use Rattle.base.specs.Whole.{clip, eqZ}
-use Rattle.base.specs.Refusal.{Checks, accepted, _unless_or_, refusal}
-use Rattle.rules.specs.Bounds.{maxRadius, SHAPE, LENGTH, PLACE}
-use Rattle.rules.specs.Tests.{boardSides, hasLength, onWall, offsetFits}
+use Rattle.base.specs.Refusal.{Checks, accepted, _unless_or_, refusal, unlessRefused}
+use Rattle.rules.specs.Bounds.{maxRadius, SHAPE, LENGTH, NUMBER, PLACE}
+use Rattle.rules.specs.Tests.{boardSides, hasLength, rowIndex, colIndex, onWall, offsetFits}
 use Rattle.rules.specs.Answers.{spanAnswer, verdictAnswer, extensionAnswer}
+use Rattle.rules.specs.Floats.{one64, isNumber, allAre}
 use Rattle.rules.specs.declared.World.{World}
 use Rattle.rules.specs.declared.Cell.{Cell}
 use Rattle.rules.specs.declared.Offset.{Offset}
@@ -24,9 +26,9 @@ use Rattle.rules.specs.declared.SpanAnswer.{SpanAnswer}
 use Rattle.rules.specs.declared.Verdict.{Verdict}
 use Rattle.rules.specs.declared.ExtensionAnswer.{ExtensionAnswer}
 
--- Index = coordinate + offset; a coordinate above or left of the grid has no index, and 0 stands for it
+-- the cell of a wall coordinate; one above or left of the grid has none, and 0 stands for its index
 unfoldable pub cellOf : World → Offset → Cell
-cellOf w o = record { 0 = clip (w .0 +ℤ o .0); 1 = clip (w .1 +ℤ o .1) }
+cellOf w o = record { 0 = clip (rowIndex w o); 1 = clip (colIndex w o) }
 
 unfoldable pub samePlace : World → World → Bool
 samePlace w v = eqZ (w .0) (v .0) && eqZ (w .1) (v .1)
@@ -43,7 +45,7 @@ spanChecks o w k =
     or accepted
 
 unfoldable pub regionSpans : Offset → World → ℕ → SpanAnswer
-regionSpans o w k = spanAnswer (refusal (spanChecks o w k)) (spanOf (w .0 +ℤ o .0) k) (spanOf (w .1 +ℤ o .1) k)
+regionSpans o w k = spanAnswer (refusal (spanChecks o w k)) (spanOf (rowIndex w o) k) (spanOf (colIndex w o) k)
 
 -- A box with min above max contains nothing
 unfoldable pub inBox : BoundingBox → World → Bool
@@ -119,10 +121,13 @@ unfoldable pub extensionOf : ℕ → ℕ → Offset → World → ℕ → Extens
 extensionOf rows cols o w k =
     extensionAnswer (refusal (extensionChecks rows cols o w k accepted)) (extensionBy o (padsOf rows cols o w k))
 
+abbrev pub boxedExtensionChecks : ℕ → ℕ → Offset → World → ℕ → BoundingBox → Checks
+boxedExtensionChecks rows cols o w k b = extensionChecks rows cols o w k (PLACE unless boxFits b or accepted)
+
 unfoldable pub boxedExtension : ℕ → ℕ → Offset → World → ℕ → BoundingBox → ExtensionAnswer
 boxedExtension rows cols o w k b =
     extensionAnswer
-    (refusal (extensionChecks rows cols o w k (PLACE unless boxFits b or accepted)))
+    (refusal (boxedExtensionChecks rows cols o w k b))
     (extensionBy o (boxedPads b rows cols o (padsOf rows cols o w k)))
 
 -- the sides that the pads of a copy make
@@ -132,7 +137,7 @@ newRows rows p = (p .left + rows) + p .right
 abbrev pub newCols : ℕ → Pads → ℕ
 newCols cols p = (p .top + cols) + p .bottom
 
--- what the cell (r, c) of the larger plane holds: old cell (i, j) stands at (i + left, j + top), a new cell holds the fill
+-- what the cell (r, c) of the larger plane holds: old cell (i, j) stands at (i + left, j + top), a new cell holds the fill; `none` is never read
 unfoldable pub copiedCell : {A : Type 0} → A → A → List A → ℕ → ℕ → Pads → ℕ → ℕ → A
 copiedCell none fill plane rows cols p r c =
     pick (leb (p .left) r && ltb (r - p .left) rows && leb (p .top) c && ltb (c - p .top) cols)
@@ -150,3 +155,20 @@ copyChecks plane rows cols p target more =
     or LENGTH unless hasLength plane (rows * cols)
     or LENGTH unless hasLength target (newRows rows p * newCols cols p)
     or more
+
+-- the target that a copy leaves
+unfoldable pub afterCopy : {A : Type 0} → A → A → List A → ℕ → ℕ → Pads → List A → Checks → List A
+afterCopy none fill plane rows cols p target checks = unlessRefused (refusal checks) (copied none fill plane rows cols p) target
+
+-- a copy of numbers takes any, one of floats has NUMBER; both fill new cells with 1
+abbrev pub wordCopyChecks : List ℕ → ℕ → ℕ → Pads → List ℕ → Checks
+wordCopyChecks plane rows cols p target = copyChecks plane rows cols p target accepted
+
+abbrev pub floatCopyChecks : List Float → ℕ → ℕ → Pads → List Float → Checks
+floatCopyChecks plane rows cols p target = copyChecks plane rows cols p target (NUMBER unless allAre isNumber plane or accepted)
+
+abbrev pub afterWordCopy : List ℕ → ℕ → ℕ → Pads → List ℕ → List ℕ
+afterWordCopy plane rows cols p target = afterCopy 0 1 plane rows cols p target (wordCopyChecks plane rows cols p target)
+
+abbrev pub afterFloatCopy : List Float → ℕ → ℕ → Pads → List Float → List Float
+afterFloatCopy plane rows cols p target = afterCopy nan one64 plane rows cols p target (floatCopyChecks plane rows cols p target)

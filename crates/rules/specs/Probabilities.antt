@@ -4,13 +4,12 @@ use mathlib.Core.Bool.{Bool, _&&_}
 use mathlib.Core.List.{List, map}
 use lib.Dec.{leb, ltb}
 use lib.ListN.{length, getD}
-use lib.IntN.{_+ℤ_}
 use lib.Ieee.{Float, nan, lt, ne}
 use Rattle.base.specs.Counting.{pick, within}
 use Rattle.base.specs.Tables.{tab, fold}
 use Rattle.base.specs.Refusal.{Checks, accepted, _unless_or_}
 use Rattle.rules.specs.Bounds.{maxRadius, maxInfluenceSide, SHAPE, LENGTH, COUNT, NUMBER, PLACE}
-use Rattle.rules.specs.Tests.{boardSides, hasLength, colourCount, onWall, offsetFits, onBoard}
+use Rattle.rules.specs.Tests.{boardSides, hasLength, colourCount, rowIndex, colIndex, onWall, offsetFits, onBoard}
 use Rattle.rules.specs.Places.{spanOf}
 use Rattle.rules.specs.Grid.{numberOf}
 use Rattle.rules.specs.Fit.{placeChecks}
@@ -81,7 +80,7 @@ clippedTo side s = record { 0 = min (s .0) side; 1 = min (s .1) side }
 
 unfoldable pub regionOf : ℕ → ℕ → World → Offset → ℕ → Region
 regionOf rows cols w o k =
-    record { rows = clippedTo rows (spanOf (w .0 +ℤ o .0) k); cols = clippedTo cols (spanOf (w .1 +ℤ o .1) k) }
+    record { rows = clippedTo rows (spanOf (rowIndex w o) k); cols = clippedTo cols (spanOf (colIndex w o) k) }
 
 -- the block's entry (0, 0) goes to the first cell of the clipped region
 abbrev pub inRegion : Region → ℕ → ℕ → Bool
@@ -114,14 +113,19 @@ multiplied rows cols b w o k plane = changedBy rows cols (productAt (regionOf ro
 unfoldable pub divided : ℕ → ℕ → Block → World → Offset → ℕ → List Float → List Float
 divided rows cols b w o k plane = changedBy rows cols (quotientAt (regionOf rows cols w o k) b) plane
 
-abbrev pub influenceChecks : List Float → ℕ → ℕ → ℕ → Block → World → Offset → ℕ → Checks
-influenceChecks plane rows cols count b w o k =
+abbrev pub influenceSizes : List Float → ℕ → ℕ → ℕ → Block → ℕ → Checks → Checks
+influenceSizes plane rows cols count b k more =
     SHAPE unless boardSides rows cols
     or SHAPE unless within 1 maxInfluenceSide (b .rows) && within 1 maxInfluenceSide (b .cols)
     or SHAPE unless leb k maxRadius
     or LENGTH unless hasLength plane (count * (rows * cols))
     or LENGTH unless hasLength (b .entries) (count * (b .rows * b .cols))
     or COUNT unless colourCount count
-    or NUMBER unless allAre isFinite plane
+    or more
+
+abbrev pub influenceChecks : List Float → ℕ → ℕ → ℕ → Block → World → Offset → ℕ → Checks
+influenceChecks plane rows cols count b w o k =
+    influenceSizes plane rows cols count b k
+    (NUMBER unless allAre isFinite plane
     or NUMBER unless allAre isFinite (b .entries)
-    or placeChecks rows cols w o accepted
+    or placeChecks rows cols w o accepted)

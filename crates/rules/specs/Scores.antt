@@ -4,13 +4,12 @@ use mathlib.Core.Bool.{Bool, _&&_}
 use mathlib.Core.List.{List}
 use lib.Dec.{leb, ltb}
 use lib.ListN.{length, getD}
-use lib.IntN.{_+ℤ_}
 use lib.Ieee.{Float, nan}
 use Rattle.base.specs.Counting.{pick}
 use Rattle.base.specs.Tables.{tab, those, fold}
 use Rattle.base.specs.Refusal.{Checks, accepted, _unless_or_, refusal}
 use Rattle.rules.specs.Bounds.{SHAPE, LENGTH, CELL, NUMBER, PLACE}
-use Rattle.rules.specs.Tests.{boardSides, hasLength, tileNumber, noneAbove}
+use Rattle.rules.specs.Tests.{boardSides, hasLength, tileNumber, noneAbove, rowIndex, colIndex}
 use Rattle.rules.specs.Answers.{fractionAnswer}
 use Rattle.rules.specs.Places.{spanOf}
 use Rattle.rules.specs.Fit.{placeChecks}
@@ -60,7 +59,7 @@ abbrev pub pastTarget : ℕ → Span → ℕ → Bool
 pastTarget side s x = leb (s .0 + 1 + 1) x && ltb x (min (s .1) side + 1)
 
 abbrev pub layFalls : ℕ → ℕ → World → Offset → ℕ → ℕ → Bool
-layFalls rows cols w o r c = pastTarget rows (spanOf (w .0 +ℤ o .0) 2) r && pastTarget cols (spanOf (w .1 +ℤ o .1) 2) c
+layFalls rows cols w o r c = pastTarget rows (spanOf (rowIndex w o) 2) r && pastTarget cols (spanOf (colIndex w o) 2) c
 
 unfoldable pub layScores : ℕ → ℕ → List ℕ → ℕ → World → Offset → List Float → List Float
 layScores rows cols counts tiles w o scores = scored rows cols (layFalls rows cols w o) (fraction counts tiles) scores

@@ -52,11 +52,14 @@ setsChecks s u =
     or CELL unless marksWithin u
     or accepted
 
+abbrev pub newSetChecks : ℕ → Checks
+newSetChecks n = COUNT unless colourCount n or accepted
+
 unfoldable pub emptySet : ℕ → SetAnswer
-emptySet n = setAnswer (refusal (COUNT unless colourCount n or accepted)) (setOf n (λ t. false))
+emptySet n = setAnswer (refusal (newSetChecks n)) (setOf n (λ t. false))
 
 unfoldable pub fullSet : ℕ → SetAnswer
-fullSet n = setAnswer (refusal (COUNT unless colourCount n or accepted)) (setOf n (λ t. true))
+fullSet n = setAnswer (refusal (newSetChecks n)) (setOf n (λ t. true))
 
 -- 0 and a colour past the size are left out, as in the text
 unfoldable pub inserted : TileBitset → ℕ → SetAnswer

@@ -4,7 +4,7 @@ use mathlib.Core.Bool.{Bool, _&&_}
 use mathlib.Core.List.{List}
 use lib.Dec.{leb, eqb}
 use lib.ListN.{length, getD}
-use lib.IntN.{_+ℤ_}
+use lib.IntN.{ℤ, _+ℤ_}
 use Rattle.base.specs.Counting.{every, within}
 use Rattle.base.specs.Whole.{withinZ, indexBelow}
 use Rattle.rules.specs.Bounds.{maxColours, maxSampleSide, maxBoardSide, maxTiles, tileCells, bare, minCoordinate, maxCoordinate, minOffset, maxOffset}
@@ -48,7 +48,14 @@ pieceStored pieces count k = within bare (count + 1) (getD pieces k 0)
 unfoldable pub piecesStored : List ℕ → ℕ → Bool
 piecesStored pieces count = every (length pieces) (pieceStored pieces count)
 
--- PLACE: a coordinate or a box corner, an offset; and that the cell, index = coordinate + offset, lies on the board
+-- Index = coordinate + offset: that of the row, and that of the column
+abbrev pub rowIndex : World → Offset → ℤ
+rowIndex w o = w .0 +ℤ o .0
+
+abbrev pub colIndex : World → Offset → ℤ
+colIndex w o = w .1 +ℤ o .1
+
+-- PLACE: a coordinate or a box corner, an offset; and that the cell lies on the board
 unfoldable pub onWall : World → Bool
 onWall w = withinZ minCoordinate maxCoordinate (w .0) && withinZ minCoordinate maxCoordinate (w .1)
 
@@ -56,4 +63,4 @@ unfoldable pub offsetFits : Offset → Bool
 offsetFits o = withinZ minOffset maxOffset (o .0) && withinZ minOffset maxOffset (o .1)
 
 unfoldable pub onBoard : ℕ → ℕ → World → Offset → Bool
-onBoard rows cols w o = indexBelow rows (w .0 +ℤ o .0) && indexBelow cols (w .1 +ℤ o .1)
+onBoard rows cols w o = indexBelow rows (rowIndex w o) && indexBelow cols (colIndex w o)

@@ -101,10 +101,15 @@ sampleChecks sample rows cols count more =
 abbrev pub roomCheck : List ℕ → List ℕ → Checks
 roomCheck tiles store = ROOM unless leb (tilesIn tiles) (tilesIn store) or accepted
 
+abbrev pub extractionChecks : List ℕ → ℕ → ℕ → ℕ → Bool → Bool → List ℕ → Checks
+extractionChecks sample rows cols count rotations reflections store =
+    sampleChecks sample rows cols count (roomCheck (extracted sample rows cols rotations reflections) store)
+
 unfoldable pub extraction : List ℕ → ℕ → ℕ → ℕ → Bool → Bool → List ℕ → TileNumber
 extraction sample rows cols count rotations reflections store =
-    let tiles : List ℕ = extracted sample rows cols rotations reflections in
-    tileAnswer (refusal (sampleChecks sample rows cols count (roomCheck tiles store))) (tilesIn tiles)
+    tileAnswer
+    (refusal (extractionChecks sample rows cols count rotations reflections store))
+    (tilesIn (extracted sample rows cols rotations reflections))
 
 -- a refusal before ROOM touches nothing; ROOM leaves the first tiles, as many as fit whole
 unfoldable pub storeAfter : List ℕ → ℕ → ℕ → ℕ → Bool → Bool → List ℕ → List ℕ
@@ -113,10 +118,16 @@ storeAfter sample rows cols count rotations reflections store =
     (storeWith (extracted sample rows cols rotations reflections) store)
     store
 
+abbrev pub membershipChecks : List ℕ → ℕ → Checks
+membershipChecks tile count =
+    COUNT unless colourCount count
+    or CELL unless noneAbove tile count
+    or accepted
+
 -- Membership is the set of a tile's colours, 0 left out
 unfoldable pub membership : List ℕ → ℕ → SetAnswer
 membership tile count =
-    setAnswer (refusal (COUNT unless colourCount count or CELL unless noneAbove tile count or accepted))
+    setAnswer (refusal (membershipChecks tile count))
     (setOf count (λ t. some tileCells (λ k. eqb t (getD tile k 0))))
 
 -- how many tiles a list has

@@ -7,11 +7,12 @@ use lib.Dec.{ltb}
 use lib.ListN.{length}
 use Rattle.base.specs.Counting.{first}
 use Rattle.base.specs.Refusal.{Checks, accepted, _unless_or_}
-use Rattle.rules.specs.Bounds.{maxWeight, SHAPE, LENGTH, COUNT, CELL}
-use Rattle.rules.specs.Tests.{boardSides, hasLength, wholeTiles, colourCount, noneAbove, piecesStored}
+use Rattle.rules.specs.Bounds.{maxWeight, CELL}
+use Rattle.rules.specs.Tests.{noneAbove}
 use Rattle.rules.specs.Answers.{deadEndAnswer}
 use Rattle.rules.specs.Grid.{flat}
-use Rattle.rules.specs.Forced.{deadAt}
+use Rattle.rules.specs.Fit.{contentsChecks}
+use Rattle.rules.specs.Forced.{deadAt, scanLengths}
 use Rattle.rules.specs.declared.DeadEnd.{DeadEnd}
 use Rattle.windows.specs.Ready.{Ready}
 
@@ -29,17 +30,7 @@ scanned pieces weights rows cols tiles count = foundBy (rows * cols) cols (deadA
 
 -- the checks of the lengths, and of what stands in the planes
 abbrev pub lengthChecks : List ℕ → List ℕ → ℕ → ℕ → List ℕ → Checks
-lengthChecks pieces weights rows cols tiles =
-    SHAPE unless boardSides rows cols
-    or LENGTH unless hasLength pieces (rows * cols)
-    or LENGTH unless hasLength weights (rows * cols)
-    or LENGTH unless wholeTiles tiles
-    or accepted
+lengthChecks pieces weights rows cols tiles = scanLengths pieces weights rows cols tiles accepted
 
 abbrev pub cellChecks : List ℕ → List ℕ → List ℕ → ℕ → Checks
-cellChecks pieces weights tiles count =
-    COUNT unless colourCount count
-    or CELL unless noneAbove tiles count
-    or CELL unless piecesStored pieces count
-    or CELL unless noneAbove weights maxWeight
-    or accepted
+cellChecks pieces weights tiles count = contentsChecks tiles count pieces (CELL unless noneAbove weights maxWeight or accepted)

@@ -17,7 +17,7 @@ use Rattle.base.specs.Tables.{fold}
 use Rattle.base.proofs.Bools.{by-test, never}
 use Rattle.base.specs.Refusal.{refusal, Gives}
 use Rattle.base.proofs.Signs.{nat-is}
-use Rattle.rules.specs.Board.{Job, Board, layChecks, afterLay, liftChecks, afterLift}
+use Rattle.rules.specs.Board.{Job, Board, layChecks, laying, afterLay, liftChecks, lifting, afterLift}
 use Rattle.rules.specs.declared.World.{World}
 use Rattle.rules.specs.declared.LayAnswer.{LayAnswer}
 use Rattle.rules.specs.declared.LiftAnswer.{LiftAnswer}
@@ -141,7 +141,7 @@ running-none j ns b p at x w = record { walks = w; boards = refl; texts = λ r z
 
 -- ---- one step of the board's calls
 pub took-lay : {a : LayAnswer} {w : World} {c : Board} {n : ℕ} (j : Job) (b : Board) (s : Step) (row col colour : ℕ) → s ≡ lay row col colour → w ≡ placeOf row col
-    → Gives (layAnswer (refusal (layChecks j b w colour))) (afterLay j b w colour) a c → n ≡ layNumber a → Gives (answerTo j b s) (boardAfter j b s) n c
+    → Gives (laying j b w colour) (afterLay j b w colour) a c → n ≡ layNumber a → Gives (answerTo j b s) (boardAfter j b s) n c
 unfolding answerTo boardAfter
 took-lay {w = w} j b s row col colour e p g q =
     rw e
@@ -151,7 +151,7 @@ took-lay {w = w} j b s row col colour e p g q =
     })
 
 pub took-lift : {a : LiftAnswer} {w : World} {c : Board} {n : ℕ} (j : Job) (b : Board) (s : Step) (row col : ℕ) → s ≡ lift row col → w ≡ placeOf row col
-    → Gives (liftAnswer (refusal (liftChecks j b w))) (afterLift j b w) a c → n ≡ liftNumber a → Gives (answerTo j b s) (boardAfter j b s) n c
+    → Gives (lifting j b w) (afterLift j b w) a c → n ≡ liftNumber a → Gives (answerTo j b s) (boardAfter j b s) n c
 unfolding answerTo boardAfter
 took-lift {w = w} j b s row col e p g q =
     rw e

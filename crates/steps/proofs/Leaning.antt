@@ -9,12 +9,11 @@ use Rattle.base.proofs.Chain.{passed, _then_, stopped, went-on, numbered}
 use Rattle.rules.specs.Bounds.{maxWeight, LENGTH, CELL}
 use Rattle.rules.specs.Tests.{boardSides, hasLength, noneAbove}
 use Rattle.rules.specs.Fit.{placeChecks}
-use Rattle.rules.specs.Board.{weightChecks}
+use Rattle.rules.specs.Board.{weightPlaneChecks, weightChecks}
 use Rattle.rules.specs.declared.World.{World}
 use Rattle.rules.specs.declared.Offset.{Offset}
 use Rattle.checks.proofs.Sides.{none-above}
 use Rattle.weights.specs.Shares.{lightFrom}
-use Rattle.steps.specs.Checks.{weightsChecks}
 
 module _ (weights : List ℕ) (rows cols : ℕ) where
   pub record Weighed : Type 0 where
@@ -22,7 +21,7 @@ module _ (weights : List ℕ) (rows cols : ℕ) where
     pub lengths : hasLength weights (rows * cols) ≡ true
     pub light : lightFrom 0 weights
 
-  pub weighed : refusal (weightsChecks weights rows cols) ≡ 0 → Weighed
+  pub weighed : refusal (weightPlaneChecks weights rows cols accepted) ≡ 0 → Weighed
   weighed e =
       let a = passed 0 (boardSides rows cols) (LENGTH unless hasLength weights (rows * cols) or CELL unless noneAbove weights maxWeight or accepted) e in
       let b = passed 1 (hasLength weights (rows * cols)) (CELL unless noneAbove weights maxWeight or accepted) (a .1) in
@@ -30,11 +29,11 @@ module _ (weights : List ℕ) (rows cols : ℕ) where
       record { sides = a .0; lengths = b .0; light = λ i h k. none-above weights maxWeight (d .0) i k }
 
   module _ (w : World) (o : Offset) where
-    pub weight-stopped : (n : ℕ) → n ≡ refusal (weightsChecks weights rows cols) → (n ≡ 0 → ⊥) → n ≡ refusal (weightChecks weights rows cols w o)
+    pub weight-stopped : (n : ℕ) → n ≡ refusal (weightPlaneChecks weights rows cols accepted) → (n ≡ 0 → ⊥) → n ≡ refusal (weightChecks weights rows cols w o)
     unfolding _then_
-    weight-stopped n e h = stopped n (weightsChecks weights rows cols) (placeChecks rows cols w o accepted) e h
+    weight-stopped n e h = stopped n (weightPlaneChecks weights rows cols accepted) (placeChecks rows cols w o accepted) e h
 
-    pub weight-went-on : (n m : ℕ) → n ≡ refusal (weightsChecks weights rows cols) → n ≡ 0 → m ≡ refusal (placeChecks rows cols w o accepted)
+    pub weight-went-on : (n m : ℕ) → n ≡ refusal (weightPlaneChecks weights rows cols accepted) → n ≡ 0 → m ≡ refusal (placeChecks rows cols w o accepted)
         → m ≡ refusal (weightChecks weights rows cols w o)
     unfolding _then_ numbered
-    weight-went-on n m e z q = went-on (weightsChecks weights rows cols) (placeChecks rows cols w o accepted) refl e z q
+    weight-went-on n m e z q = went-on (weightPlaneChecks weights rows cols accepted) (placeChecks rows cols w o accepted) refl e z q

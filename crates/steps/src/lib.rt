@@ -1,9 +1,8 @@
 // Document 01, "Weights, counts, scores": the two calls on a weights plane, their checks first. A refused call changes nothing.
 ghost use mathlib.Core.Path.{_≡_};
-ghost use Rattle.base.specs.Refusal.{Gives, refusal};
+ghost use Rattle.base.specs.Refusal.{Gives, accepted, refusal};
 ghost use Rattle.rules.specs.Answers.{writtenAnswer};
-ghost use Rattle.rules.specs.Board.{weightChecks, afterRaise, afterLower};
-ghost use Rattle.steps.specs.Checks.{weightsChecks};
+ghost use Rattle.rules.specs.Board.{weightPlaneChecks, weightChecks, afterRaise, afterLower};
 use checks::board_sides;
 use checks::cells_of;
 use checks::words_have_length;
@@ -19,7 +18,7 @@ use weights::raise_near;
 
 // SHAPE, LENGTH and CELL of a weights plane, 0 where all pass.
 fn weights_refused(weights: &[u32], rows: usize, cols: usize) -> u8
-    ensures { λ r. ⌜ r ≡ refusal (weightsChecks (now (weights .entry)) rows cols) ⌝ }
+    ensures { λ r. ⌜ r ≡ refusal (weightPlaneChecks (now (weights .entry)) rows cols accepted) ⌝ }
 {
     if !board_sides(rows, cols) {
         return rules::SHAPE;

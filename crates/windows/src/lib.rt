@@ -8,8 +8,8 @@ ghost use Rattle.base.specs.Counting.{pick};
 ghost use Rattle.rules.specs.Grid.{flat};
 ghost use Rattle.rules.specs.Bounds.{maxColours, maxTiles};
 ghost use Rattle.rules.specs.Tests.{tilesIn};
-ghost use Rattle.rules.specs.Sets.{has, bitsOf, setOf};
-ghost use Rattle.rules.specs.Fit.{pattern, fitCount, serves, hasFitting, allows, windowOrder, lists};
+ghost use Rattle.rules.specs.Sets.{has, bitsOf};
+ghost use Rattle.rules.specs.Fit.{pattern, fitCount, serves, hasFitting, allows, windowOrder, lists, foundAt};
 ghost use Rattle.rules.specs.declared.Listing.the-variants.{Colours};
 ghost use Rattle.pattern.specs.Words.{Masked};
 ghost use Rattle.pattern.specs.Ready.{Readable, OnGrid};
@@ -189,7 +189,7 @@ pub fn viable_tiles_at(
 ) -> Listing
     requires { ⌜ Ready (now pieces) rows cols (now tiles) count ⌝ }
     requires { ⌜ OnGrid rows cols (cell .0) (cell .1) ⌝ }
-    ensures { λ r. ⌜ r ≡ Colours (setOf count (lists (flat rows cols) (now (tiles .entry)) (now (pieces .entry)) (cell .0 * cols + cell .1))) ⌝ }
+    ensures { λ r. ⌜ r ≡ Colours (foundAt (flat rows cols) (now (tiles .entry)) (now (pieces .entry)) count (cell .0 * cols + cell .1)) ⌝ }
 {
     let bits = viable_colours(pieces, rows, cols, tiles, count, cell.0, cell.1);
     Listing::Colours(TileBitset {

@@ -4,12 +4,12 @@ use mathlib.Core.Path.{refl, sym, _∙_, ap}
 use Rattle.base.specs.Refusal.{refusal}
 use Rattle.rules.specs.Answers.{liftAnswer}
 use Rattle.rules.specs.Grid.{flat, numberOf}
-use Rattle.rules.specs.Board.{lifted, afterLift}
+use Rattle.rules.specs.Board.{lifted, liftingChecks, afterLift}
 use Rattle.rules.specs.declared.Cell.{Cell}
 use Rattle.rules.specs.declared.LiftAnswer.the-variants as LiftAnswer·
 use Rattle.checks.proofs.Tiled.{not-whole, few-tiles}
 use Rattle.nearness.proofs.Placing.{near-refused}
-use Rattle.planes.specs.Planes.{board, number, liftingChecks}
+use Rattle.planes.specs.Planes.{board, number}
 use Rattle.planes.proofs.Chains.{not-none}
 use Rattle.moves.proofs.Plane.{in-plane}
 use Rattle.board.proofs.Answers.{was-refused, was-done}

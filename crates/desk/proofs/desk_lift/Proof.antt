@@ -5,9 +5,7 @@ use Rattle.boundary.specs.Boundary.{liftNumber}
 use mathlib.Core.Path.{_∙_}
 use Rattle.rules.specs.declared.World.{World}
 use Rattle.rules.specs.declared.Offset.{Offset}
-use Rattle.base.specs.Refusal.{refusal}
-use Rattle.rules.specs.Answers.{liftAnswer}
-use Rattle.rules.specs.Board.{liftChecks, afterLift}
+use Rattle.rules.specs.Board.{lifting, afterLift}
 use Rattle.planes.specs.Planes.{board, job}
 use borrow.Author.Needs.{needs}
 use Rattle.desk.proofs.desk_lift.Statement.{statement}
@@ -38,7 +36,7 @@ returns : tie.Need-returns
 returns c =
     let e = c .before .before .before .before .before .before .before .before .before .before .before .before .before .before .before .before .before in
     let a = e .args in
-    numbered-at liftNumber (λ (w : World) (o : Offset). liftAnswer (refusal (liftChecks (job (a .rows) (a .cols) (a .count) (a .tiles .now) o) (board (a .pieces .now) (a .weights .now) (a .counts .now)) w))) (λ (w : World) (o : Offset). afterLift (job (a .rows) (a .cols) (a .count) (a .tiles .now) o) (board (a .pieces .now) (a .weights .now) (a .counts .now)) w) (c .before .before .before .before .before .before .before .before .before .before .before .before .world-at .ensures ∙ world-is (e .fits .row) (e .fits .col)) (c .before .before .before .before .before .before .before .before .before .before .before .offset-at .ensures ∙ offset-is (e .fits .down) (e .fits .across)) (c .lifted .ensures) (c .before .before .before .before .before .before .before .lift .ensures)
+    numbered-at liftNumber (λ (w : World) (o : Offset). lifting (job (a .rows) (a .cols) (a .count) (a .tiles .now) o) (board (a .pieces .now) (a .weights .now) (a .counts .now)) w) (λ (w : World) (o : Offset). afterLift (job (a .rows) (a .cols) (a .count) (a .tiles .now) o) (board (a .pieces .now) (a .weights .now) (a .counts .now)) w) (c .before .before .before .before .before .before .before .before .before .before .before .before .world-at .ensures ∙ world-is (e .fits .row) (e .fits .col)) (c .before .before .before .before .before .before .before .before .before .before .before .offset-at .ensures ∙ offset-is (e .fits .down) (e .fits .across)) (c .lifted .ensures) (c .before .before .before .before .before .before .before .lift .ensures)
 
 pub desk-lift-spec : {M : Type 1} → statement M
 desk-lift-spec = tie.close (tie.spec world-at-requires offset-at-requires lift-requires lifted-requires same-length same-length-2 same-length-3 returns)

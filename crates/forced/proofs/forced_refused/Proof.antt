@@ -3,8 +3,8 @@ use mathlib.Core.Path.{refl}
 use Rattle.base.specs.Refusal.{accepted}
 use Rattle.base.proofs.Chain.{_then_, numbered, stopped, went-on, refuse, pass, no-check}
 use Rattle.rules.specs.Fit.{placeChecks}
+use Rattle.rules.specs.Forced.{boundsChecks}
 use Rattle.fit.proofs.Accepted.{pieces-stop, pieces-go}
-use Rattle.forced.specs.Round.{afterPlace}
 use borrow.Author.Needs.{needs}
 use Rattle.forced.proofs.forced_refused.Statement.{statement}
 use Rattle.forced.proofs.forced_refused.Tie as tie
@@ -24,7 +24,7 @@ returns-2 c =
     let d = c .before .before in
     let a = d .before .before .before .before .args in
     pieces-go _ _ _ _ _ _ (d .before .pieces-refused .ensures) (d .if1 .left)
-    (stopped _ (placeChecks (a .rows) (a .cols) (a .position) (a .offset) accepted) (afterPlace (a .bounds)) (c .before .place-refused .ensures) (c .if2 .taken))
+    (stopped _ (placeChecks (a .rows) (a .cols) (a .position) (a .offset) accepted) (boundsChecks (a .bounds)) (c .before .place-refused .ensures) (c .if2 .taken))
 
 bounds-fit-requires : tie.Need-bounds-fit-requires
 bounds-fit-requires c κs = search needs
@@ -36,7 +36,7 @@ returns-3 c =
     let d = e .before .before in
     let a = d .before .before .before .before .args in
     pieces-go _ _ _ _ _ _ (d .before .pieces-refused .ensures) (d .if1 .left)
-    (went-on (placeChecks (a .rows) (a .cols) (a .position) (a .offset) accepted) (afterPlace (a .bounds)) refl (e .before .place-refused .ensures) (e .if2 .left)
+    (went-on (placeChecks (a .rows) (a .cols) (a .position) (a .offset) accepted) (boundsChecks (a .bounds)) refl (e .before .place-refused .ensures) (e .if2 .left)
     (refuse _ _ (c .before .bounds-fit .ensures) (c .if3 .taken)))
 
 returns-4 : tie.Need-returns-4
@@ -46,7 +46,7 @@ returns-4 c =
     let d = e .before .before in
     let a = d .before .before .before .before .args in
     pieces-go _ _ _ _ _ _ (d .before .pieces-refused .ensures) (d .if1 .left)
-    (went-on (placeChecks (a .rows) (a .cols) (a .position) (a .offset) accepted) (afterPlace (a .bounds)) refl (e .before .place-refused .ensures) (e .if2 .left)
+    (went-on (placeChecks (a .rows) (a .cols) (a .position) (a .offset) accepted) (boundsChecks (a .bounds)) refl (e .before .place-refused .ensures) (e .if2 .left)
     (pass _ _ _ (c .before .bounds-fit .ensures) (c .if3 .left) no-check))
 
 pub forced-refused-spec : {M : Type 1} → statement M
