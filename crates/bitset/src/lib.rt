@@ -146,7 +146,7 @@ pub fn to_vec(set: TileBitset) -> ColourList
     if refused != 0 {
         return ColourList {
             refused: refused,
-            colours: [0u8; 30],
+            colours: [0u8; rules::MAX_COLOURS as usize],
             len: 0,
         };
     }

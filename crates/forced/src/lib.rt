@@ -27,7 +27,7 @@ use rules::Offset;
 use rules::World;
 
 // The eight neighbours row by row, by their places in the 3x3; the place itself is 4.
-const ROUND_ORDER: [usize; 8] = [0, 1, 2, 3, 5, 6, 7, 8];
+const ROUND_ORDER: [usize; rules::ADDED_ROOM] = [0, 1, 2, 3, 5, 6, 7, 8];
 
 fn round_place(i: usize) -> usize
     requires { ⌜ i < addedRoom ⌝ }
@@ -132,7 +132,7 @@ fn no_positions() -> ForcedPositions
         colour: 0,
     };
     ForcedPositions {
-        entries: [none; 8],
+        entries: [none; rules::ADDED_ROOM],
         len: 0,
     }
 }

@@ -33,11 +33,17 @@ fn starts_along(side: usize) -> usize
 }
 
 // The tile of the window that starts at (r, c).
-fn window_tile(sample: &[u8], rows: usize, cols: usize, r: usize, c: usize) -> [u8; 9]
+fn window_tile(
+    sample: &[u8],
+    rows: usize,
+    cols: usize,
+    r: usize,
+    c: usize,
+) -> [u8; rules::TILE_CELLS]
     requires { ⌜ Sample (now sample) rows cols × (r ≤ maxTiles) × (c ≤ maxTiles) ⌝ }
     ensures { λ t. ⌜ t ≡ windowTile (now (sample .entry)) rows cols r c ⌝ }
 {
-    let mut tile = [0u8; 9];
+    let mut tile = [0u8; rules::TILE_CELLS];
     let mut k = 0;
     while k < rules::TILE_CELLS {
         tile[k] = sample_cell(sample, rows, cols, r + k / TILE_SIDE, c + k % TILE_SIDE);
@@ -47,7 +53,7 @@ fn window_tile(sample: &[u8], rows: usize, cols: usize, r: usize, c: usize) -> [
 }
 
 // Old (2-j, i) at (i, j).
-pub fn rotate_90(old: [u8; 9]) -> [u8; 9]
+pub fn rotate_90(old: [u8; rules::TILE_CELLS]) -> [u8; rules::TILE_CELLS]
     ensures { λ t. ⌜ t ≡ rotated old ⌝ }
 {
     [
@@ -64,7 +70,7 @@ pub fn rotate_90(old: [u8; 9]) -> [u8; 9]
 }
 
 // Old (i, 2-j) at (i, j).
-pub fn reflect(tile: [u8; 9]) -> [u8; 9]
+pub fn reflect(tile: [u8; rules::TILE_CELLS]) -> [u8; rules::TILE_CELLS]
     ensures { λ t. ⌜ t ≡ reflected tile ⌝ }
 {
     [
@@ -81,7 +87,7 @@ pub fn reflect(tile: [u8; 9]) -> [u8; 9]
 }
 
 // n successive rotations, at most three.
-fn rotate_times(n: usize, tile: [u8; 9]) -> [u8; 9]
+fn rotate_times(n: usize, tile: [u8; rules::TILE_CELLS]) -> [u8; rules::TILE_CELLS]
     requires { ⌜ n < 4 ⌝ }
     ensures { λ t. ⌜ t ≡ turned n tile ⌝ }
 {
@@ -113,7 +119,7 @@ fn forms_of(rotations: bool, reflections: bool) -> usize
 }
 
 // Form i of a tile: the turned ones first, then the reflection of each in that order.
-fn form_of(rotations: bool, i: usize, tile: [u8; 9]) -> [u8; 9]
+fn form_of(rotations: bool, i: usize, tile: [u8; rules::TILE_CELLS]) -> [u8; rules::TILE_CELLS]
     requires { ⌜ i < turns rotations + turns rotations ⌝ }
     ensures { λ t. ⌜ t ≡ form rotations i tile ⌝ }
 {
@@ -132,7 +138,7 @@ pub fn variant_of(
     rotations: bool,
     reflections: bool,
     v: usize,
-) -> [u8; 9]
+) -> [u8; rules::TILE_CELLS]
     requires { ⌜ Sample (now sample) rows cols × (v ≤ maxTiles) ⌝ }
     ensures { λ t. ⌜ t ≡ variant (now (sample .entry)) rows cols rotations reflections v ⌝ }
 {

@@ -31,10 +31,10 @@ fn byte_at(bytes: &[u8], at: usize) -> u8
     if at < bytes.len() { bytes[at] } else { 0 }
 }
 
-pub fn tile_of(bytes: &[u8]) -> [u8; 9]
+pub fn tile_of(bytes: &[u8]) -> [u8; rules::TILE_CELLS]
     ensures { λ r. ⌜ r ≡ nineOf (now (bytes .entry)) ⌝ }
 {
-    let mut tile = [0u8; 9];
+    let mut tile = [0u8; rules::TILE_CELLS];
     let mut k = 0;
     while k < rules::TILE_CELLS {
         tile[k] = byte_at(bytes, k);

@@ -17,6 +17,11 @@ use jobs::Setup;
 use rules::TileNumber;
 use stepping::run_steps;
 
+// A sample of 16 by 16 has 256 cells, and its windows start at 14 by 14 of them; eight forms of each are nine bytes a tile.
+const SAMPLE_CELLS: usize = 256;
+
+const STORE: usize = 14_112;
+
 fn clip(n: u32) -> u8
     ensures { λ r. ⌜ r ≡ min 255 n ⌝ }
 {
@@ -54,7 +59,14 @@ fn run(
 {
     let rows = setup.board.rows;
     let cols = setup.board.cols;
-    planes::fresh(pieces, weights, counts, rows, cols, tiles.len() / 9);
+    planes::fresh(
+        pieces,
+        weights,
+        counts,
+        rows,
+        cols,
+        tiles.len() / rules::TILE_CELLS,
+    );
     let next = run_steps(pieces, weights, counts, out, 0, tiles, setup, numbers, from);
     put_end(out, next, pieces, weights, counts, tiles, setup)
 }
@@ -86,7 +98,7 @@ fn list_sample(out: &mut [u8], sample: &mut [u8], numbers: &[u32], setup: Setup)
     ensures { λ r. ⌜ Writes (jobText (now (numbers .entry)) setup) 0 (now (out .entry)) r (now (out .exit)) ⌝ }
 {
     copy_cells(sample, numbers);
-    let mut store = [0u8; 14112];
+    let mut store = [0u8; STORE];
     let answer = tiles::extract_tiles(
         sample,
         setup.sample.rows,
@@ -98,7 +110,13 @@ fn list_sample(out: &mut [u8], sample: &mut [u8], numbers: &[u32], setup: Setup)
     );
     let from = setup.sample.rows * setup.sample.cols + 7;
     match answer {
-        TileNumber::Tiles(n) => run_on_planes(out, &store[..n * 9], setup, numbers, from),
+        TileNumber::Tiles(n) => run_on_planes(
+            out,
+            &store[..n * rules::TILE_CELLS],
+            setup,
+            numbers,
+            from,
+        ),
         TileNumber::Refused(no) => put_refused(out, 0, no),
     }
 }
@@ -108,6 +126,6 @@ pub fn list_job(out: &mut [u8], numbers: &[u32], setup: Setup) -> usize
     ensures { λ r. ⌜ Writes (jobText (now (numbers .entry)) setup) 0 (now (out .entry)) r (now (out .exit)) ⌝ }
 {
     let cells = setup.sample.rows * setup.sample.cols;
-    let mut sample = [0u8; 256];
+    let mut sample = [0u8; SAMPLE_CELLS];
     list_sample(out, &mut sample[..cells], numbers, setup)
 }

@@ -12,6 +12,12 @@ use words::Parsed;
 // No output is longer, so that a buffer of this length holds it whole.
 pub const MAX_OUTPUT: usize = 65_536;
 
+// One byte more than the longest input, so that a longer one is seen to be longer.
+pub const INPUT_ROOM: usize = words::MAX_INPUT + 1;
+
+// A number takes a digit and, but for the last, a blank.
+const MAX_NUMBERS: usize = words::MAX_INPUT / 2;
+
 fn put_bad_input(out: &mut [u8]) -> usize
     ensures { λ r. ⌜ Writes badLine 0 (now (out .entry)) r (now (out .exit)) ⌝ }
 {
@@ -32,7 +38,7 @@ fn list_numbers(out: &mut [u8], numbers: &[u32]) -> usize
 fn list_input(out: &mut [u8], input: &[u8]) -> usize
     ensures { λ r. ⌜ Writes (printed (now (input .entry))) 0 (now (out .entry)) r (now (out .exit)) ⌝ }
 {
-    let mut store = [0u32; 8192];
+    let mut store = [0u32; MAX_NUMBERS];
     let parsed = words::read_input(&mut store, input);
     match parsed {
         Parsed::Numbers(n) => list_numbers(out, &store[..n]),

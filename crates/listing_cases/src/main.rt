@@ -12,7 +12,7 @@ fn list_case(k: usize) -> bool {
     if file < 0 {
         return false;
     }
-    let mut input = [0u8; 16385];
+    let mut input = [0u8; lister::INPUT_ROOM];
     let read = io::read_full(file, &mut input);
     libc::close(file);
     let mut out = [0u8; lister::MAX_OUTPUT];

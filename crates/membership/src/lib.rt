@@ -10,20 +10,20 @@ ghost use Rattle.rules.specs.Tiles.{membership};
 use rules::SetAnswer;
 use rules::TileBitset;
 
-fn colours_of(tile: [u8; 9], count: u32) -> u32
+fn colours_of(tile: [u8; rules::TILE_CELLS], count: u32) -> u32
     requires { ⌜ (colourCount count ≡ true) × (noneAbove tile count ≡ true) ⌝ }
     ensures { λ r. ⌜ r ≡ bitsOf count (λ t. some 9 (λ k. eqb t (getD tile k 0))) ⌝ }
 {
     let mut bits: u32 = 0;
     let mut k = 0;
-    while k < 9 {
+    while k < rules::TILE_CELLS {
         bits = sets::with_colour(bits, tile[k] as u32);
         k += 1;
     }
     bits
 }
 
-pub fn convert_tile_to_membership_booleans(tile: [u8; 9], count: u32) -> SetAnswer
+pub fn convert_tile_to_membership_booleans(tile: [u8; rules::TILE_CELLS], count: u32) -> SetAnswer
     ensures { λ r. ⌜ r ≡ membership tile count ⌝ }
 {
     if !checks::colour_count(count) {

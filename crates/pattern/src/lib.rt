@@ -26,12 +26,18 @@ fn colour_at(pieces: &[u32], rows: usize, cols: usize, r: usize, c: usize) -> u8
 }
 
 // The nine colours of the window that starts at (row, col).
-pub fn window_at(pieces: &[u32], rows: usize, cols: usize, row: usize, col: usize) -> [u8; 9]
+pub fn window_at(
+    pieces: &[u32],
+    rows: usize,
+    cols: usize,
+    row: usize,
+    col: usize,
+) -> [u8; rules::TILE_CELLS]
     requires { ⌜ Readable (now pieces) rows cols ⌝ }
     requires { ⌜ OnGrid rows cols row col ⌝ }
     ensures { λ w. ⌜ w ≡ tab 9 (pattern (flat rows cols) (now (pieces .entry)) (row * cols + col)) ⌝ }
 {
-    let mut window = [0u8; 9];
+    let mut window = [0u8; rules::TILE_CELLS];
     let mut i = 0;
     while i < rules::TILE_CELLS {
         window[i] = colour_at(pieces, rows, cols, row + i / 3, col + i % 3);
@@ -75,10 +81,10 @@ fn mask_for(colour: u8) -> u8
     if colour == 0 { 0 } else { 255 }
 }
 
-pub fn masks_for(window: &[u8; 9]) -> [u8; 9]
+pub fn masks_for(window: &[u8; rules::TILE_CELLS]) -> [u8; rules::TILE_CELLS]
     ensures { λ r. ⌜ r ≡ tab 9 (λ i. maskOf (getD (now (window .entry)) i 0)) ⌝ }
 {
-    let mut masks = [0u8; 9];
+    let mut masks = [0u8; rules::TILE_CELLS];
     let mut k = 0;
     while k < rules::TILE_CELLS {
         masks[k] = mask_for(window[k]);
@@ -88,7 +94,12 @@ pub fn masks_for(window: &[u8; 9]) -> [u8; 9]
 }
 
 // Tile n fits the window: its cells, where the window is laid, are the window's. Eight are compared at once; most tiles are left there.
-pub fn tile_fits(tiles: &[u8], n: usize, window: &[u8; 9], mask: &[u8; 9]) -> bool
+pub fn tile_fits(
+    tiles: &[u8],
+    n: usize,
+    window: &[u8; rules::TILE_CELLS],
+    mask: &[u8; rules::TILE_CELLS],
+) -> bool
     requires { ⌜ n * 9 + 9 ≤ length (now tiles) ⌝ }
     requires { ⌜ Masked (now window) (now mask) ⌝ }
     ensures { λ r. ⌜ r ≡ fitsTile (now (tiles .entry)) (λ i. getD (now (window .entry)) i 0) n ⌝ }
@@ -101,7 +112,7 @@ pub fn tile_fits(tiles: &[u8], n: usize, window: &[u8; 9], mask: &[u8; 9]) -> bo
 }
 
 // No piece lies in the window.
-pub fn is_bare(window: &[u8; 9]) -> bool
+pub fn is_bare(window: &[u8; rules::TILE_CELLS]) -> bool
     requires { ⌜ Cells (now window) ⌝ }
     ensures { λ r. ⌜ r ≡ every 9 (λ i. eqb (getD (now (window .entry)) i 0) 0) ⌝ }
 {

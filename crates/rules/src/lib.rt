@@ -105,13 +105,13 @@ pub struct ForcedPosition {
 // Forced places in order, as forced neighbours answers them and the queue takes them. Entries past the length are 0 in the answer and
 // are not read by the queue.
 pub struct ForcedPositions {
-    pub entries: [ForcedPosition; 8],
+    pub entries: [ForcedPosition; ADDED_ROOM],
     pub len: usize,
 }
 
 // The queue: entries stand from entry 0, next out first.
 pub struct ForcedPipeline {
-    pub entries: [ForcedPosition; 64],
+    pub entries: [ForcedPosition; QUEUE_ROOM],
     pub len: usize,
 }
 
@@ -189,7 +189,7 @@ pub enum LiftAnswer {
 
 pub struct ColourList {
     pub refused: u8,
-    pub colours: [u8; 30],
+    pub colours: [u8; MAX_COLOURS as usize],
     pub len: usize,
 }
 

@@ -11,7 +11,7 @@ ghost use Rattle.seen.specs.Chains.{buckets, bucketOf, Chained};
 // Odd, and such that samples of two to thirty colours are spread well: about one comparison a tile (31 took up to four).
 const SPREAD: usize = 61;
 
-const BUCKETS: usize = 4096;
+pub const BUCKETS: usize = 4096;
 
 fn wide(b: u8) -> usize
     ensures { λ r. ⌜ (r ≡ b) × (r < 256) ⌝ }
@@ -25,7 +25,7 @@ fn number(n: u16) -> usize
     n as usize
 }
 
-pub fn bucket_of(tile: &[u8; 9]) -> usize
+pub fn bucket_of(tile: &[u8; rules::TILE_CELLS]) -> usize
     ensures { λ r. ⌜ (r ≡ bucketOf (λ k. getD (now (tile .entry)) k 0)) × (r < buckets) ⌝ }
 {
     let mut bucket = 0;
@@ -38,7 +38,7 @@ pub fn bucket_of(tile: &[u8; 9]) -> usize
 }
 
 // Tile n of a list equals a tile. The comparison leaves at the first cell that differs.
-fn same_tile(tiles: &[u8], n: usize, tile: &[u8; 9]) -> bool
+fn same_tile(tiles: &[u8], n: usize, tile: &[u8; rules::TILE_CELLS]) -> bool
     requires { ⌜ n < tilesIn (now tiles) ⌝ }
     ensures { λ r. ⌜ r ≡ sameTile (now (tiles .entry)) (now (tile .entry)) n ⌝ }
 {
@@ -56,9 +56,9 @@ fn same_tile(tiles: &[u8], n: usize, tile: &[u8; 9]) -> bool
 // Only the tiles of the same bucket are compared: an equal one is there if anywhere.
 pub fn has_tile(
     tiles: &[u8],
-    heads: &[u16; 4096],
-    nexts: &[u16; 7200],
-    tile: &[u8; 9],
+    heads: &[u16; BUCKETS],
+    nexts: &[u16; rules::MAX_TILES],
+    tile: &[u8; rules::TILE_CELLS],
     bucket: usize,
 ) -> bool
     requires { ⌜ Chained (now tiles) (now heads) (now nexts) × (bucket ≡ bucketOf (λ k. getD (now tile) k 0)) × (bucket < buckets) ⌝ }
@@ -76,7 +76,12 @@ pub fn has_tile(
 }
 
 // Notes that tile n, of this bucket, was added to the list.
-pub fn note_tile(heads: &mut [u16; 4096], nexts: &mut [u16; 7200], n: usize, bucket: usize)
+pub fn note_tile(
+    heads: &mut [u16; BUCKETS],
+    nexts: &mut [u16; rules::MAX_TILES],
+    n: usize,
+    bucket: usize,
+)
     requires { ⌜ (n < maxTiles) × (bucket < buckets) ⌝ }
     ensures { λ _. ⌜ (now (heads .exit) ≡ set (now (heads .entry)) bucket (n + 1)) × (now (nexts .exit) ≡ set (now (nexts .entry)) n (getD (now (heads .entry)) bucket 0)) ⌝ }
 {

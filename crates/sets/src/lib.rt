@@ -78,7 +78,7 @@ pub fn members(bits: u32, size: u32) -> ColourList
     requires { ⌜ size ≤ maxColours ⌝ }
     ensures { λ r. ⌜ r ≡ colourList 0 (coloursOf size (has bits)) ⌝ }
 {
-    let mut colours = [0u8; 30];
+    let mut colours = [0u8; rules::MAX_COLOURS as usize];
     let mut len: usize = 0;
     let mut k: u32 = 0;
     while k < size {

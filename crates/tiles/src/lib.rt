@@ -13,12 +13,12 @@ ghost use Rattle.seen.specs.Chains.{Chained};
 ghost use Rattle.tiles.specs.Adding.{Adds};
 use rules::TileNumber;
 
-fn put_tile(store: &mut [u8], at: usize, tile: &[u8; 9])
+fn put_tile(store: &mut [u8], at: usize, tile: &[u8; rules::TILE_CELLS])
     requires { ⌜ (at + 9 ≤ length (now store)) × (length (now tile) ≡ 9) ⌝ }
     ensures { λ _. ⌜ now (store .exit) ≡ paste (now (store .entry)) at (now (tile .entry)) 9 ⌝ }
 {
     let mut k = 0;
-    while k < 9 {
+    while k < rules::TILE_CELLS {
         store[at + k] = tile[k];
         k += 1;
     }
@@ -28,20 +28,20 @@ fn put_tile(store: &mut [u8], at: usize, tile: &[u8; 9])
 // kept: one more than fit, where there is no room.
 fn add_tile(
     store: &mut [u8],
-    heads: &mut [u16; 4096],
-    nexts: &mut [u16; 7200],
+    heads: &mut [u16; seen::BUCKETS],
+    nexts: &mut [u16; rules::MAX_TILES],
     n: usize,
-    tile: &[u8; 9],
+    tile: &[u8; rules::TILE_CELLS],
 ) -> usize
     requires { ⌜ (n ≤ tilesIn (now store)) × (n < maxTiles) × (length (now tile) ≡ 9) × Chained (take (n * 9) (now store)) (now heads) (now nexts) ⌝ }
     ensures { λ r. ⌜ Adds (now (store .entry)) n (now (tile .entry)) r (now (store .exit)) (now (heads .exit)) (now (nexts .exit)) ⌝ }
 {
-    let at = n * 9;
+    let at = n * rules::TILE_CELLS;
     let bucket = seen::bucket_of(tile);
     if seen::has_tile(&store[..at], heads, nexts, tile, bucket) {
         return n;
     }
-    if store.len() - at < 9 {
+    if store.len() - at < rules::TILE_CELLS {
         return n + 1;
     }
     put_tile(store, at, tile);
@@ -63,9 +63,9 @@ fn gather(
     ensures { λ a. ⌜ Gives (tileAnswer (refusal (roomCheck (extracted (now (source .entry)) rows cols rotations reflections) (now (store .entry)))) (tilesIn (extracted (now (source .entry)) rows cols rotations reflections))) (storeWith (extracted (now (source .entry)) rows cols rotations reflections) (now (store .entry))) a (now (store .exit)) ⌝ }
 {
     let total = forms::variants_of(rows, cols, rotations, reflections);
-    let room = store.len() / 9;
-    let mut heads = [0u16; 4096];
-    let mut nexts = [0u16; 7200];
+    let room = store.len() / rules::TILE_CELLS;
+    let mut heads = [0u16; seen::BUCKETS];
+    let mut nexts = [0u16; rules::MAX_TILES];
     let mut n = 0;
     let mut left = total;
     while 0 < left {

@@ -29,7 +29,7 @@ fn one_if(test: bool) -> u32
 }
 
 // How many tiles fit the window: all of them where it is bare.
-fn fit_count(tiles: &[u8], window: &[u8; 9], mask: &[u8; 9]) -> u32
+fn fit_count(tiles: &[u8], window: &[u8; rules::TILE_CELLS], mask: &[u8; rules::TILE_CELLS]) -> u32
     requires { ⌜ tilesIn (now tiles) ≤ maxTiles ⌝ }
     requires { ⌜ Masked (now window) (now mask) ⌝ }
     ensures { λ r. ⌜ r ≡ fitCount (now (tiles .entry)) (λ i. getD (now (window .entry)) i 0) ⌝ }
@@ -79,8 +79,8 @@ fn missing_past(
     missing: u32,
     tiles: &[u8],
     n: usize,
-    window: &[u8; 9],
-    mask: &[u8; 9],
+    window: &[u8; rules::TILE_CELLS],
+    mask: &[u8; rules::TILE_CELLS],
     q: usize,
 ) -> u32
     requires { ⌜ n * 9 + 9 ≤ length (now tiles) ⌝ }
@@ -96,7 +96,13 @@ fn missing_past(
 }
 
 // Those of the colours left that a fitting tile has at place q. The tiles are walked until no colour is missing.
-fn window_colours(left: u32, tiles: &[u8], window: &[u8; 9], mask: &[u8; 9], q: usize) -> u32
+fn window_colours(
+    left: u32,
+    tiles: &[u8],
+    window: &[u8; rules::TILE_CELLS],
+    mask: &[u8; rules::TILE_CELLS],
+    q: usize,
+) -> u32
     requires { ⌜ left < 2 ^ maxColours ⌝ }
     requires { ⌜ Coloured (now tiles) ⌝ }
     requires { ⌜ Masked (now window) (now mask) ⌝ }
