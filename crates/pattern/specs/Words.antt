@@ -5,6 +5,7 @@ use mathlib.Core.List.{List}
 use lib.Dec.{eqb}
 use lib.ListN.{getD}
 use Rattle.base.specs.Counting.{pick}
+use Rattle.rules.specs.Bounds.{tileCells}
 
 unfoldable pub word : ℕ → (ℕ → ℕ) → ℕ
 word zero f = 0
@@ -16,9 +17,9 @@ maskOf colour = pick (eqb colour 0) 0 255
 
 -- nine cells, each a byte
 pub record Cells (window : List ℕ) : Type 0 where
-  pub low : (i : ℕ) → i < 9 → getD window i 0 < 256
+  pub low : (i : ℕ) → i < tileCells → getD window i 0 < 256
 
 -- a window's colours with their masks
 pub record Masked (window mask : List ℕ) : Type 0 where
   pub cells : Cells window
-  pub masks : (i : ℕ) → i < 9 → getD mask i 0 ≡ maskOf (getD window i 0)
+  pub masks : (i : ℕ) → i < tileCells → getD mask i 0 ≡ maskOf (getD window i 0)

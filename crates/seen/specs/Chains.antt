@@ -7,7 +7,7 @@ use mathlib.Core.List.{List}
 use lib.Dec.{eqb}
 use lib.ListN.{length, getD}
 use Rattle.base.specs.Counting.{pick}
-use Rattle.rules.specs.Bounds.{maxTiles}
+use Rattle.rules.specs.Bounds.{maxTiles, tileCells}
 use Rattle.rules.specs.Tests.{tilesIn}
 
 abbrev pub buckets : ℕ
@@ -22,11 +22,11 @@ bucketTo cell zero = 0
 bucketTo cell (suc k) = (bucketTo cell k * spread + cell k) % buckets
 
 unfoldable pub bucketOf : (ℕ → ℕ) → ℕ
-bucketOf cell = bucketTo cell 9
+bucketOf cell = bucketTo cell tileCells
 
 -- the cells of tile n of a list; that it is in bucket h
 unfoldable pub cellsOf : List ℕ → ℕ → ℕ → ℕ
-cellsOf tiles n k = getD tiles (n * 9 + k) 0
+cellsOf tiles n k = getD tiles (n * tileCells + k) 0
 
 unfoldable pub inBucket : List ℕ → ℕ → ℕ → Bool
 inBucket tiles h n = eqb (bucketOf (cellsOf tiles n)) h
