@@ -31,24 +31,24 @@ use Rattle.windows.proofs.Accepted.{accepted-ready}
 use Rattle.nearness.specs.Near.{nearSpans}
 use Rattle.nearness.proofs.Leaning.{on-plane}
 use Rattle.nearness.proofs.Placing.{near-passed, nearby}
-use Rattle.planes.specs.Planes.{board, job, lengthsChecks, contentsChecks}
+use Rattle.planes.specs.Planes.{board, job, lengthsAlone, contentsAlone}
 use Rattle.moves.specs.Standing.{Standing}
 
 module _ (pieces weights counts : List ℕ) (rows cols : ℕ) (tiles : List ℕ) (count : ℕ) where
   -- the contents, by the number of tiles that `tile_number` answers
-  contents-by : (a : TileNumber) (x : ℕ) → a ≡ tilesCounted tiles → a ≡ Tiles x → (m : ℕ) → m ≡ refusal (contentsChecks pieces weights counts tiles count x)
-      → m ≡ refusal (contentsChecks pieces weights counts tiles count (tilesIn tiles))
-  contents-by a x t y m g = g ∙ ap (λ (n : ℕ). refusal (contentsChecks pieces weights counts tiles count n)) (so-many tiles a t x y)
+  contents-by : (a : TileNumber) (x : ℕ) → a ≡ tilesCounted tiles → a ≡ Tiles x → (m : ℕ) → m ≡ refusal (contentsAlone pieces weights counts tiles count x)
+      → m ≡ refusal (contentsAlone pieces weights counts tiles count (tilesIn tiles))
+  contents-by a x t y m g = g ∙ ap (λ (n : ℕ). refusal (contentsAlone pieces weights counts tiles count n)) (so-many tiles a t x y)
 
   -- the checks of the planes have passed
   pub record Passed : Type 0 where
-    pub lengths : refusal (lengthsChecks pieces weights counts rows cols) ≡ 0
+    pub lengths : refusal (lengthsAlone pieces weights counts rows cols) ≡ 0
     pub tiled : wholeTiles tiles ≡ true
-    pub contents : refusal (contentsChecks pieces weights counts tiles count (tilesIn tiles)) ≡ 0
+    pub contents : refusal (contentsAlone pieces weights counts tiles count (tilesIn tiles)) ≡ 0
 
-  pub have-passed : (n : ℕ) → n ≡ refusal (lengthsChecks pieces weights counts rows cols) → n ≡ 0
+  pub have-passed : (n : ℕ) → n ≡ refusal (lengthsAlone pieces weights counts rows cols) → n ≡ 0
       → (a : TileNumber) (x : ℕ) → a ≡ tilesCounted tiles → a ≡ Tiles x
-      → (m : ℕ) → m ≡ refusal (contentsChecks pieces weights counts tiles count x) → m ≡ 0 → Passed
+      → (m : ℕ) → m ≡ refusal (contentsAlone pieces weights counts tiles count x) → m ≡ 0 → Passed
   have-passed n e z a x t y m g h =
       record { lengths = sym e ∙ z; tiled = is-whole tiles a t x y; contents = sym (contents-by a x t y m g) ∙ h }
 
@@ -65,26 +65,26 @@ module _ (pieces weights counts : List ℕ) (rows cols : ℕ) (tiles : List ℕ)
     whole last = boardChecks (job rows cols count tiles o) (board pieces weights counts) (placeChecks rows cols w o last)
 
     abbrev rest : Checks → Checks
-    rest last = LENGTH unless wholeTiles tiles or (contentsChecks pieces weights counts tiles count (tilesIn tiles) then (placeChecks rows cols w o accepted then last))
+    rest last = LENGTH unless wholeTiles tiles or (contentsAlone pieces weights counts tiles count (tilesIn tiles) then (placeChecks rows cols w o accepted then last))
 
-    module _ (last : Checks) (n : ℕ) (e : n ≡ refusal (lengthsChecks pieces weights counts rows cols)) where
+    module _ (last : Checks) (n : ℕ) (e : n ≡ refusal (lengthsAlone pieces weights counts rows cols)) where
       pub by-lengths : (n ≡ 0 → ⊥) → n ≡ refusal (whole last)
       unfolding _then_
-      by-lengths h = stopped n (lengthsChecks pieces weights counts rows cols) (rest last) e h
+      by-lengths h = stopped n (lengthsAlone pieces weights counts rows cols) (rest last) e h
 
       after-lengths : n ≡ 0 → (m : ℕ) → m ≡ refusal (rest last) → m ≡ refusal (whole last)
       unfolding _then_ numbered
-      after-lengths z m q = went-on (lengthsChecks pieces weights counts rows cols) (rest last) refl e z q
+      after-lengths z m q = went-on (lengthsAlone pieces weights counts rows cols) (rest last) refl e z q
 
       pub by-tiles : n ≡ 0 → wholeTiles tiles ≡ false → LENGTH ≡ refusal (whole last)
       by-tiles z f = after-lengths z LENGTH (refuse-by (wholeTiles tiles) _ f)
 
       pub by-contents : n ≡ 0 → (a : TileNumber) (x : ℕ) → a ≡ tilesCounted tiles → a ≡ Tiles x
-          → (m : ℕ) → m ≡ refusal (contentsChecks pieces weights counts tiles count x) → (m ≡ 0 → ⊥) → m ≡ refusal (whole last)
+          → (m : ℕ) → m ≡ refusal (contentsAlone pieces weights counts tiles count x) → (m ≡ 0 → ⊥) → m ≡ refusal (whole last)
       by-contents z a x t y m g h =
           after-lengths z m
           (pass-by LENGTH (wholeTiles tiles) _ (is-whole tiles a t x y)
-          (stopped m (contentsChecks pieces weights counts tiles count (tilesIn tiles)) (placeChecks rows cols w o accepted then last) (contents-by a x t y m g) h))
+          (stopped m (contentsAlone pieces weights counts tiles count (tilesIn tiles)) (placeChecks rows cols w o accepted then last) (contents-by a x t y m g) h))
 
     module _ (p : Passed) where
       -- then the place decides, and after it what comes last
@@ -93,7 +93,7 @@ module _ (pieces weights counts : List ℕ) (rows cols : ℕ) (tiles : List ℕ)
       after-contents last k q =
           after-lengths last 0 (sym (p .lengths)) refl k
           (pass-by LENGTH (wholeTiles tiles) _ (p .tiled)
-          (went-on (contentsChecks pieces weights counts tiles count (tilesIn tiles)) (placeChecks rows cols w o accepted then last) refl (sym (p .contents)) refl q))
+          (went-on (contentsAlone pieces weights counts tiles count (tilesIn tiles)) (placeChecks rows cols w o accepted then last) refl (sym (p .contents)) refl q))
 
       pub by-place : (last : Checks) → refusal (placeChecks rows cols w o accepted) ≡ PLACE → PLACE ≡ refusal (whole last)
       by-place last q = after-contents last PLACE (stopped PLACE (placeChecks rows cols w o accepted) last (sym q) (λ z. omega arith))

@@ -14,7 +14,7 @@ use Rattle.rules.specs.Places.{newCols, copyChecks, afterCopy}
 use Rattle.rules.specs.declared.Pads.{Pads}
 use Rattle.rules.specs.declared.Written.{Written}
 use Rattle.rules.specs.declared.Written.the-variants.{Done, Refused}
-use Rattle.copy_checks.specs.Laid.{sizeChecks, laid, Sized}
+use Rattle.copy_checks.specs.Laid.{sizeChecks, rowsLaid, Sized}
 use Rattle.copy_checks.proofs.Copied.{laid-copied}
 use Rattle.copy_checks.proofs.Sides.{sized}
 
@@ -58,7 +58,7 @@ module _ {A : Type 0} (d fill : A) (plane target : List A) (rows cols : ℕ) (p 
         let g : length w ≡ length target = ap length f ∙ length-tab (length target) (λ k. fill) in
         record { old-sides = sizes .old-sides; new-sides = sizes .new-sides; held-is = sizes .held-is; room-is = g ∙ sizes .room-is }
 
-    pub copy-done : (v : List A) → 0 ≡ refusal more → v ≡ laid d plane rows cols (p .left) (p .top) (newCols cols p) w → Copies Done v
+    pub copy-done : (v : List A) → 0 ≡ refusal more → v ≡ rowsLaid d plane rows cols (p .left) (p .top) (newCols cols p) w → Copies Done v
     unfolding afterCopy
     copy-done v h q =
         rw (← asked-more e z h) (record { answered = refl; leaves = q ∙ laid-copied d fill plane w target rows cols p (sizes .room-is) f })

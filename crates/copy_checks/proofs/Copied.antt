@@ -19,7 +19,7 @@ use Rattle.base.proofs.Tabled.{length-tab, getD-tab, tab-ext, is-tab}
 use Rattle.base.proofs.Swept.{swept, swept-none, swept-turn, swept-skip, swept-all}
 use Rattle.rules.specs.Places.{newRows, newCols, copiedCell, copied}
 use Rattle.rules.specs.declared.Pads.{Pads}
-use Rattle.copy_checks.specs.Laid.{overCell, overlaid, laidCell, laid}
+use Rattle.copy_checks.specs.Laid.{overCell, overlaid, laidCell, rowsLaid}
 
 -- a row ends before a later one begins
 pub rows-apart : {a b : ℕ} (wide : ℕ) → a < b → a * wide + wide ≤ b * wide
@@ -96,17 +96,17 @@ startOf i left top wide = (i + left) * wide + top
 
 module _ {A : Type 0} (d : A) (plane l : List A) (cols left top wide : ℕ) where
   -- no row is laid yet
-  pub laid-none : l ≡ laid d plane 0 cols left top wide l
-  unfolding laid
+  pub laid-none : l ≡ rowsLaid d plane 0 cols left top wide l
+  unfolding rowsLaid
   laid-none = is-tab d l (length l) (laidCell d plane 0 cols left top wide l) refl (λ k h. sym (laid-below d plane l 0 cols left top wide k (omega arith)))
 
-  pub laid-length : (rows : ℕ) → length (laid d plane rows cols left top wide l) ≡ length l
-  unfolding laid
+  pub laid-length : (rows : ℕ) → length (rowsLaid d plane rows cols left top wide l) ≡ length l
+  unfolding rowsLaid
   laid-length rows = length-tab (length l) (laidCell d plane rows cols left top wide l)
 
   -- all rows are laid
-  pub laid-end : (w : List A) (rows i : ℕ) → rows ≤ i → i ≤ rows → w ≡ laid d plane i cols left top wide l → w ≡ laid d plane rows cols left top wide l
-  laid-end w rows i p q e = let m : i ≡ rows = omega arith in e ∙ ap (λ (n : ℕ). laid d plane n cols left top wide l) m
+  pub laid-end : (w : List A) (rows i : ℕ) → rows ≤ i → i ≤ rows → w ≡ rowsLaid d plane i cols left top wide l → w ≡ rowsLaid d plane rows cols left top wide l
+  laid-end w rows i p q e = let m : i ≡ rows = omega arith in e ∙ ap (λ (n : ℕ). rowsLaid d plane n cols left top wide l) m
 
   -- one row more leaves the other rows
   other-row : (i k : ℕ) → (k / wide < i + left) ⊎ (i + left < k / wide)
@@ -128,12 +128,12 @@ module _ {A : Type 0} (d : A) (plane l : List A) (cols left top wide : ℕ) wher
       (lt-or-le (k / wide) left)
 
   -- the row i that is laid next, w the larger plane before it
-  module _ (i : ℕ) (w : List A) (fits : top + cols ≤ wide) (some : 0 < cols) (e : w ≡ laid d plane i cols left top wide l) where
+  module _ (i : ℕ) (w : List A) (fits : top + cols ≤ wide) (some : 0 < cols) (e : w ≡ rowsLaid d plane i cols left top wide l) where
     long : length w ≡ length l
     long = ap length e ∙ laid-length i
 
     held : (k : ℕ) → k < length l → getD w k d ≡ laidCell d plane i cols left top wide l k
-    unfolding laid
+    unfolding rowsLaid
     held k h = ap (λ (x : List A). getD x k d) e ∙ getD-tab (length l) (laidCell d plane i cols left top wide l) k d h
 
     -- an entry of another row, and one of the row itself
@@ -171,8 +171,8 @@ module _ {A : Type 0} (d : A) (plane l : List A) (cols left top wide : ℕ) wher
         (lt-or-le (k % wide) top)
 
     -- one row more is laid
-    pub laid-more : overlaid d plane (startOf i left top wide) (i * cols) cols w ≡ laid d plane (i + 1) cols left top wide l
-    unfolding overlaid laid
+    pub laid-more : overlaid d plane (startOf i left top wide) (i * cols) cols w ≡ rowsLaid d plane (i + 1) cols left top wide l
+    unfolding overlaid rowsLaid
     laid-more =
         ap (λ (n : ℕ). tab n (overCell d plane (startOf i left top wide) (i * cols) cols w)) long
         ∙ tab-ext (length l) (overCell d plane (startOf i left top wide) (i * cols) cols w) (laidCell d plane (i + 1) cols left top wide l)
@@ -184,8 +184,8 @@ module _ {A : Type 0} (d : A) (plane l : List A) (cols left top wide : ℕ) wher
 -- rows laid in a plane of fill make the copy
 pub laid-copied : {A : Type 0} (d fill : A) (plane w l : List A) (rows cols : ℕ) (p : Pads)
     → length l ≡ newRows rows p * newCols cols p → w ≡ tab (length l) (λ k. fill)
-    → laid d plane rows cols (p .left) (p .top) (newCols cols p) w ≡ copied d fill plane rows cols p
-unfolding laid laidCell copied copiedCell
+    → rowsLaid d plane rows cols (p .left) (p .top) (newCols cols p) w ≡ copied d fill plane rows cols p
+unfolding rowsLaid laidCell copied copiedCell
 laid-copied {A} d fill plane w l rows cols p e q =
     let n : length w ≡ newRows rows p * newCols cols p = ap length q ∙ length-tab (length l) (λ k. fill) ∙ e in
     ap (λ (m : ℕ). tab m (laidCell d plane rows cols (p .left) (p .top) (newCols cols p) w)) n

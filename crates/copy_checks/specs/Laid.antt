@@ -36,8 +36,8 @@ laidCell none plane rows cols left top wide l k =
     (getD plane ((k / wide - left) * cols + (k % wide - top)) none)
     (getD l k none)
 
-unfoldable pub laid : {A : Type 0} → A → List A → ℕ → ℕ → ℕ → ℕ → ℕ → List A → List A
-laid none plane rows cols left top wide l = tab (length l) (laidCell none plane rows cols left top wide l)
+unfoldable pub rowsLaid : {A : Type 0} → A → List A → ℕ → ℕ → ℕ → ℕ → ℕ → List A → List A
+rowsLaid none plane rows cols left top wide l = tab (length l) (laidCell none plane rows cols left top wide l)
 
 pub record Sized (rows cols : ℕ) (p : Pads) (held room : ℕ) : Type 0 where
   pub old-sides : boardSides rows cols ≡ true

@@ -6,7 +6,7 @@ ghost use lib.Ieee.{nan};
 ghost use Rattle.base.specs.Tables.{tab};
 ghost use Rattle.rules.specs.Places.{newCols};
 ghost use Rattle.rules.specs.Floats.{one64};
-ghost use Rattle.copy_checks.specs.Laid.{overlaid, laid, Sized};
+ghost use Rattle.copy_checks.specs.Laid.{overlaid, rowsLaid, Sized};
 use rules::Pads;
 
 pub fn fill_f64(target: &mut [f64])
@@ -32,7 +32,7 @@ fn lay_row_f64(target: &mut [f64], plane: &[f64], at: usize, from: usize, n: usi
 
 pub fn lay_rows_f64(target: &mut [f64], plane: &[f64], rows: usize, cols: usize, pads: Pads)
     requires { ⌜ Sized rows cols pads (length (now plane)) (length (now target)) ⌝ }
-    ensures { λ _. ⌜ now (target .exit) ≡ laid nan (now (plane .entry)) rows cols (pads .left) (pads .top) (newCols cols pads) (now (target .entry)) ⌝ }
+    ensures { λ _. ⌜ now (target .exit) ≡ rowsLaid nan (now (plane .entry)) rows cols (pads .left) (pads .top) (newCols cols pads) (now (target .entry)) ⌝ }
 {
     let left = pads.left;
     let top = pads.top;

@@ -4,7 +4,7 @@ ghost use Prim.Native.Nat.{_+_, _≤_};
 ghost use lib.ListN.{length};
 ghost use Rattle.base.specs.Tables.{tab};
 ghost use Rattle.rules.specs.Places.{newCols};
-ghost use Rattle.copy_checks.specs.Laid.{overlaid, laid, Sized};
+ghost use Rattle.copy_checks.specs.Laid.{overlaid, rowsLaid, Sized};
 use rules::Pads;
 
 pub fn fill_u32(target: &mut [u32])
@@ -30,7 +30,7 @@ fn lay_row_u32(target: &mut [u32], plane: &[u32], at: usize, from: usize, n: usi
 
 pub fn lay_rows_u32(target: &mut [u32], plane: &[u32], rows: usize, cols: usize, pads: Pads)
     requires { ⌜ Sized rows cols pads (length (now plane)) (length (now target)) ⌝ }
-    ensures { λ _. ⌜ now (target .exit) ≡ laid 0 (now (plane .entry)) rows cols (pads .left) (pads .top) (newCols cols pads) (now (target .entry)) ⌝ }
+    ensures { λ _. ⌜ now (target .exit) ≡ rowsLaid 0 (now (plane .entry)) rows cols (pads .left) (pads .top) (newCols cols pads) (now (target .entry)) ⌝ }
 {
     let left = pads.left;
     let top = pads.top;

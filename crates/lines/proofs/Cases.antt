@@ -3,7 +3,7 @@
 use Prim.Native.Nat.{ℕ}
 use mathlib.Core.Path.{_≡_, refl}
 use mathlib.Core.List.{List, [], _∷_, map}
-use Rattle.lines.specs.Lines.{digits, decimal, numberLine, joined, gap, cellText, planeText}
+use Rattle.lines.specs.Lines.{digits, decimal, numberLine, joined, parting, cellText, planeText}
 use Rattle.lines.specs.Pages.{pageWith, placeAfter}
 
 pub record Case : Type 0 where
@@ -32,5 +32,5 @@ cases =
     ∷ []
 
 pub texts-are : map (λ (c : Case). c .text) cases ≡ map (λ (c : Case). c .is) cases
-unfolding digits decimal numberLine joined gap cellText planeText pageWith placeAfter
+unfolding digits decimal numberLine joined parting cellText planeText pageWith placeAfter
 texts-are = refl

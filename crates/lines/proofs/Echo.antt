@@ -17,7 +17,7 @@ use Rattle.base.proofs.Numbers.{within-is}
 use Rattle.base.proofs.Tabled.{fold-append}
 use Rattle.words.specs.Words.{Reading, between, inside, numbers, isBlank, withDigit, grows, grown, after, ended, reading, numbersIn}
 use Rattle.words.specs.Input.{inputBlanks}
-use Rattle.lines.specs.Lines.{digits, decimal, numberLine, joined, gap, cellText, planeText}
+use Rattle.lines.specs.Lines.{digits, decimal, numberLine, joined, parting, cellText, planeText}
 
 -- white space without a digit
 abbrev pub NoDigit : List ℕ → Type 0
@@ -118,8 +118,8 @@ module _ (blanks : List ℕ) (limit : ℕ) (plain : NoDigit blanks) (small : lim
   -- a plane
   pub plane-back : (least : ℕ) (plane : List ℕ) (cols : ℕ) → ((k : ℕ) → getD plane k 0 - least ≤ limit) → isBlank blanks 10 ≡ true → isBlank blanks 32 ≡ true
       → numbersIn blanks limit (planeText least plane cols) ≡ numbers (tab (length plane) (λ k. getD plane k 0 - least))
-  unfolding planeText cellText gap
+  unfolding planeText cellText parting
   plane-back least plane cols few feed space =
-      numbers-back (λ k. getD plane k 0 - least) (gap cols) few
+      numbers-back (λ k. getD plane k 0 - least) (parting cols) few
       (λ k. by-test (eqb (k % cols + 1) cols) (λ t. rw t feed) (λ t. rw t space))
       (length plane)

@@ -11,7 +11,7 @@ use lib.ListN.{length, getD, take, length-append}
 use lib.Seq.{take-suc, take-all}
 use borrow.Author.Tests.{lt-ltb, le-ltb, eq-eqb, ne-eqb}
 use Rattle.base.proofs.Bools.{by-test}
-use Rattle.lines.specs.Lines.{digits, decimal, numberLine, joined, gap, cellText, planeText}
+use Rattle.lines.specs.Lines.{digits, decimal, numberLine, joined, parting, cellText, planeText}
 use Rattle.lines.specs.Pages.{Writes}
 use Rattle.lines.proofs.Written.{writes-none, writes-then, writes-as}
 
@@ -60,19 +60,19 @@ pub joined-all : {at r : ℕ} {x y : List ℕ} (f : ℕ → List ℕ) (k n : ℕ
 joined-all f k n h l p = let e : k ≡ n = omega arith in writes-as (ap (λ (m : ℕ). joined m f) e) p
 
 -- ---- cells
-pub gap-none : (cols k : ℕ) → cols ≡ 0 → 32 ≡ gap cols k
-unfolding gap
+pub gap-none : (cols k : ℕ) → cols ≡ 0 → 32 ≡ parting cols k
+unfolding parting
 gap-none cols k e = rw (ne-eqb (k % cols + 1) cols (λ q. omega arith))
 
-pub gap-last : (cols k : ℕ) → k % cols + 1 ≡ cols → 10 ≡ gap cols k
-unfolding gap
+pub gap-last : (cols k : ℕ) → k % cols + 1 ≡ cols → 10 ≡ parting cols k
+unfolding parting
 gap-last cols k e = rw (eq-eqb (k % cols + 1) cols e)
 
-pub gap-inner : (cols k : ℕ) → (k % cols + 1 ≡ cols → ⊥) → 32 ≡ gap cols k
-unfolding gap
+pub gap-inner : (cols k : ℕ) → (k % cols + 1 ≡ cols → ⊥) → 32 ≡ parting cols k
+unfolding parting
 gap-inner cols k h = rw (ne-eqb (k % cols + 1) cols h)
 
-pub cell-is : {at r s b n : ℕ} {x y z : List ℕ} (least : ℕ) (plane : List ℕ) (cols k : ℕ) → n ≡ getD plane k 0 - least → b ≡ gap cols k
+pub cell-is : {at r s b n : ℕ} {x y z : List ℕ} (least : ℕ) (plane : List ℕ) (cols k : ℕ) → n ≡ getD plane k 0 - least → b ≡ parting cols k
     → Writes (decimal n) at x r y → Writes (b ∷ []) r y s z → Writes (cellText least plane cols k) at x s z
 unfolding cellText
 cell-is least plane cols k p q f g = writes-as (rw (p, q)) (writes-then f g)

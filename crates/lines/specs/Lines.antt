@@ -24,12 +24,12 @@ joined zero f = []
 joined (suc n) f = joined n f ++ f n
 
 -- what follows cell k of a plane: a line feed at the end of its row, else a single blank
-unfoldable pub gap : ℕ → ℕ → ℕ
-gap cols k = pick (eqb (k % cols + 1) cols) 10 32
+unfoldable pub parting : ℕ → ℕ → ℕ
+parting cols k = pick (eqb (k % cols + 1) cols) 10 32
 
 -- a cell as the number by which it passes the least that the plane can hold: 1 for pieces, whose bare cells store 1, else 0
 unfoldable pub cellText : ℕ → List ℕ → ℕ → ℕ → List ℕ
-cellText least plane cols k = decimal (getD plane k 0 - least) ++ gap cols k ∷ []
+cellText least plane cols k = decimal (getD plane k 0 - least) ++ parting cols k ∷ []
 
 -- a plane row by row
 unfoldable pub planeText : ℕ → List ℕ → ℕ → List ℕ

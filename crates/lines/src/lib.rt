@@ -4,7 +4,7 @@ ghost use mathlib.Core.Path.{_≡_};
 ghost use mathlib.Core.List.{List, [], _∷_};
 ghost use Prim.Native.Nat.{_+_, _-_, _%_, _<_};
 ghost use lib.ListN.{length, getD};
-ghost use Rattle.lines.specs.Lines.{digits, decimal, numberLine, gap, cellText, planeText};
+ghost use Rattle.lines.specs.Lines.{digits, decimal, numberLine, parting, cellText, planeText};
 ghost use Rattle.lines.specs.Pages.{Writes};
 
 fn put(out: &mut [u8], at: usize, b: u8) -> usize
@@ -66,7 +66,7 @@ pub fn put_text(out: &mut [u8], at: usize, text: &[u8]) -> usize
 
 // No columns at all make one row without an end.
 fn gap_after(cols: usize, k: usize) -> u8
-    ensures { λ r. ⌜ r ≡ gap cols k ⌝ }
+    ensures { λ r. ⌜ r ≡ parting cols k ⌝ }
 {
     if cols == 0 {
         return b' ';

@@ -7,7 +7,7 @@ use Rattle.rules.specs.Board.{Job, Board, shapeOf, boardOf, afterLay, afterLift
 use Rattle.stand.specs.Runs as Runs·
 use Rattle.stand.proofs.Stands.{says-all}
 use Rattle.jobs.specs.Form.{Step, lay, lift}
-use Rattle.stepping.specs.Steps.{placeOf, boardAfter, boardIn}
+use Rattle.stepping.specs.Steps.{placeAt, boardAfter, boardIn}
 use Rattle.lister.specs.Printed.{freshFor}
 
 -- what is fixed of a job, and the call of each step, which names the job's number of colours
@@ -15,8 +15,8 @@ abbrev panelOf : Job → Runs·.Panel
 panelOf j = record { rows = j .rows; cols = j .cols; tiles = j .tiles; offset = j .offset }
 
 abbrev callOf : Job → Step → Runs·.Call
-callOf j (lay row col colour) = Runs·.lay (j .count) (placeOf row col) colour
-callOf j (lift row col) = Runs·.lift (j .count) (placeOf row col)
+callOf j (lay row col colour) = Runs·.lay (j .count) (placeAt row col) colour
+callOf j (lift row col) = Runs·.lift (j .count) (placeAt row col)
 
 step-is : (j : Job) (b : Board) (s : Step) → boardAfter j b s ≡ Runs·.step (panelOf j) b (callOf j s)
 unfolding boardAfter afterLay afterLift

@@ -22,7 +22,7 @@ use Rattle.rules.specs.Board.{Job, Board, freshBoard, freshChecks, afterFresh}
 use Rattle.rules.specs.declared.TileNumber.{TileNumber}
 use Rattle.rules.specs.declared.TileNumber.the-variants as TileNumber·
 use Rattle.checks.proofs.Sides.{whole-number}
-use Rattle.words.specs.Words.{Text, bad, numbers, parsedInto, over, storeWith}
+use Rattle.words.specs.Words.{Text, bad, numbers, parsedInto, over, numbersStored}
 use Rattle.words.specs.Input.{inputText}
 use Rattle.jobs.specs.Form.{Step, stepsIn, listOf, isWhole, maxSample, maxBoard, sidesUpTo, headFits, sampleCells, tailFits, isFormed, setupOf, sampleIn, stepNumbers, formOf}
 use Rattle.words.specs.declared.Parsed.{Parsed}
@@ -225,7 +225,7 @@ never-full room (numbers ns) h e =
     let q : Parsed·.Numbers (length ns) ≡ Parsed·.Full = sym (pick-yes (leb (length ns) room) (Parsed·.Numbers (length ns)) Parsed·.Full (le-leb (length ns) room (h ns refl))) ∙ e in
     let z : _≡_ {A = ℕ} 0 1 = cc in omega arith
 
-module _ (input d : List ℕ) (a : Parsed) (x : List ℕ) (room : length d ≡ 8192) (g : Gives (parsedInto (length d) (inputText input)) (storeWith (inputText input) d) a x) where
+module _ (input d : List ℕ) (a : Parsed) (x : List ℕ) (room : length d ≡ 8192) (g : Gives (parsedInto (length d) (inputText input)) (numbersStored (inputText input) d) a x) where
   module _ (n : ℕ) (e : a ≡ Parsed·.Numbers n) where
     found : (ns : List ℕ) × (inputText input ≡ numbers ns) × (n ≡ length ns) × (n ≤ length d)
     found = parsed-numbers (length d) (inputText input) n (sym (g .answered) ∙ e)
@@ -238,7 +238,7 @@ module _ (input d : List ℕ) (a : Parsed) (x : List ℕ) (room : length d ≡ 8
     stored =
         let ns : List ℕ = found .0 in
         let t : leb (length ns) (length d) ≡ true = le-leb (length ns) (length d) (omega (arith, found .2, found .3)) in
-        ap (take n) (g .leaves ∙ ap (λ (q : Text). storeWith q d) (found .1) ∙ pick-yes (leb (length ns) (length d)) (ns ++ drop (length ns) d) d t)
+        ap (take n) (g .leaves ∙ ap (λ (q : Text). numbersStored q d) (found .1) ∙ pick-yes (leb (length ns) (length d)) (ns ++ drop (length ns) d) d t)
         ∙ take-at ns (drop (length ns) d) n (sym (found .2))
 
     pub input-small-there : Small (take n x)

@@ -19,7 +19,7 @@ use Rattle.rules.specs.Tests.{boardSides, hasLength, tileNumber}
 use Rattle.rules.specs.Grid.{laidOn}
 use Rattle.rules.specs.Board.{freshChecks, freshBoard, layingChecks, liftingChecks}
 use Rattle.checks.proofs.Sides.{long}
-use Rattle.planes.specs.Planes.{board, lengthsChecks}
+use Rattle.planes.specs.Planes.{board, lengthsAlone}
 
 -- the ways of the last checks
 module _ (pieces : List ℕ) (k count colour : ℕ) where
@@ -48,14 +48,14 @@ pub not-none : (n : ℕ) → suc n ≡ 0 → ⊥
 not-none n e = omega arith
 
 -- fresh: its lengths, then the number of tiles
-module _ (pieces weights counts : List ℕ) (rows cols tiles : ℕ) (n : ℕ) (e : n ≡ refusal (lengthsChecks pieces weights counts rows cols)) where
+module _ (pieces weights counts : List ℕ) (rows cols tiles : ℕ) (n : ℕ) (e : n ≡ refusal (lengthsAlone pieces weights counts rows cols)) where
   pub fresh-lengths : (n ≡ 0 → ⊥) → n ≡ refusal (freshChecks rows cols tiles (board pieces weights counts))
   unfolding _then_
-  fresh-lengths h = stopped n (lengthsChecks pieces weights counts rows cols) (LENGTH unless tileNumber tiles or accepted) e h
+  fresh-lengths h = stopped n (lengthsAlone pieces weights counts rows cols) (LENGTH unless tileNumber tiles or accepted) e h
 
   fresh-on : n ≡ 0 → (m : ℕ) → m ≡ refusal (LENGTH unless tileNumber tiles or accepted) → m ≡ refusal (freshChecks rows cols tiles (board pieces weights counts))
   unfolding _then_ numbered
-  fresh-on z m q = went-on (lengthsChecks pieces weights counts rows cols) (LENGTH unless tileNumber tiles or accepted) refl e z q
+  fresh-on z m q = went-on (lengthsAlone pieces weights counts rows cols) (LENGTH unless tileNumber tiles or accepted) refl e z q
 
   pub fresh-number : n ≡ 0 → tileNumber tiles ≡ false → LENGTH ≡ refusal (freshChecks rows cols tiles (board pieces weights counts))
   fresh-number z f = fresh-on z LENGTH (refuse-by (tileNumber tiles) accepted f)

@@ -17,8 +17,8 @@ abbrev pub number : ℕ → Cell → ℕ
 number cols cell = cell .0 * cols + cell .1
 
 -- the checks, part by part
-abbrev pub lengthsChecks : List ℕ → List ℕ → List ℕ → ℕ → ℕ → Checks
-lengthsChecks pieces weights counts rows cols = boardLengths rows cols (board pieces weights counts) accepted
+abbrev pub lengthsAlone : List ℕ → List ℕ → List ℕ → ℕ → ℕ → Checks
+lengthsAlone pieces weights counts rows cols = boardLengths rows cols (board pieces weights counts) accepted
 
-abbrev pub contentsChecks : List ℕ → List ℕ → List ℕ → List ℕ → ℕ → ℕ → Checks
-contentsChecks pieces weights counts tiles count n = boardContents tiles count (board pieces weights counts) n accepted
+abbrev pub contentsAlone : List ℕ → List ℕ → List ℕ → List ℕ → ℕ → ℕ → Checks
+contentsAlone pieces weights counts tiles count n = boardContents tiles count (board pieces weights counts) n accepted

@@ -8,7 +8,7 @@ ghost use Rattle.base.specs.Refusal.{Gives, refusal};
 ghost use Rattle.rules.specs.Bounds.{maxCells, maxTiles};
 ghost use Rattle.rules.specs.Answers.{writtenAnswer};
 ghost use Rattle.rules.specs.Board.{freshChecks, afterFresh, layingChecks, liftingChecks};
-ghost use Rattle.planes.specs.Planes.{board, number, lengthsChecks, contentsChecks};
+ghost use Rattle.planes.specs.Planes.{board, number, lengthsAlone, contentsAlone};
 use checks::board_sides;
 use checks::cells_of;
 use checks::colour_count;
@@ -28,7 +28,7 @@ pub fn lengths_refused(
     rows: usize,
     cols: usize,
 ) -> u8
-    ensures { λ r. ⌜ r ≡ refusal (lengthsChecks (now (pieces .entry)) (now (weights .entry)) (now (counts .entry)) rows cols) ⌝ }
+    ensures { λ r. ⌜ r ≡ refusal (lengthsAlone (now (pieces .entry)) (now (weights .entry)) (now (counts .entry)) rows cols) ⌝ }
 {
     if !board_sides(rows, cols) {
         return rules::SHAPE;
@@ -56,7 +56,7 @@ pub fn contents_refused(
     n: usize,
 ) -> u8
     requires { ⌜ n ≤ maxTiles ⌝ }
-    ensures { λ r. ⌜ r ≡ refusal (contentsChecks (now (pieces .entry)) (now (weights .entry)) (now (counts .entry)) (now (tiles .entry)) count n) ⌝ }
+    ensures { λ r. ⌜ r ≡ refusal (contentsAlone (now (pieces .entry)) (now (weights .entry)) (now (counts .entry)) (now (tiles .entry)) count n) ⌝ }
 {
     if !colour_count(count) {
         return rules::COUNT;

@@ -12,17 +12,17 @@ use Rattle.rules.specs.Fit.{placeChecks}
 use Rattle.rules.specs.Probabilities.{Block, influenceChecks}
 use Rattle.rules.specs.declared.World.{World}
 use Rattle.rules.specs.declared.Offset.{Offset}
-use Rattle.probability_checks.specs.Sizes.{sizeChecks}
+use Rattle.probability_checks.specs.Sizes.{stepSizes}
 
 module _ (plane : List Float) (rows cols count : ℕ) (b : Block) (w : World) (o : Offset) (k : ℕ) where
   abbrev rest : Checks
   rest = NUMBER unless allAre isFinite plane or NUMBER unless allAre isFinite (b .entries) or placeChecks rows cols w o accepted
 
   -- the sizes are refused, and the sizes are in order
-  pub sizes-stop : {r : ℕ} → r ≡ refusal (sizeChecks plane rows cols count b k) → (r ≡ 0 → ⊥) → r ≡ refusal (influenceChecks plane rows cols count b w o k)
+  pub sizes-stop : {r : ℕ} → r ≡ refusal (stepSizes plane rows cols count b k) → (r ≡ 0 → ⊥) → r ≡ refusal (influenceChecks plane rows cols count b w o k)
   unfolding _then_
-  sizes-stop {r} e h = stopped r (sizeChecks plane rows cols count b k) rest e h
+  sizes-stop {r} e h = stopped r (stepSizes plane rows cols count b k) rest e h
 
-  pub sizes-go : {r m : ℕ} → r ≡ refusal (sizeChecks plane rows cols count b k) → r ≡ 0 → m ≡ refusal rest → m ≡ refusal (influenceChecks plane rows cols count b w o k)
+  pub sizes-go : {r m : ℕ} → r ≡ refusal (stepSizes plane rows cols count b k) → r ≡ 0 → m ≡ refusal rest → m ≡ refusal (influenceChecks plane rows cols count b w o k)
   unfolding _then_ numbered
-  sizes-go e z h = went-on (sizeChecks plane rows cols count b k) rest refl e z h
+  sizes-go e z h = went-on (stepSizes plane rows cols count b k) rest refl e z h

@@ -6,5 +6,5 @@ use Rattle.base.specs.Refusal.{Checks, accepted}
 use Rattle.rules.specs.Probabilities.{Block, influenceSizes}
 
 -- the first of the call's checks
-abbrev pub sizeChecks : List Float → ℕ → ℕ → ℕ → Block → ℕ → Checks
-sizeChecks plane rows cols count b k = influenceSizes plane rows cols count b k accepted
+abbrev pub stepSizes : List Float → ℕ → ℕ → ℕ → Block → ℕ → Checks
+stepSizes plane rows cols count b k = influenceSizes plane rows cols count b k accepted

@@ -6,7 +6,7 @@ ghost use Rattle.base.specs.Refusal.{refusal};
 ghost use Rattle.rules.specs.Bounds.{maxInfluenceSide};
 ghost use Rattle.rules.specs.Probabilities.{normaliseChecks, influenceChecks};
 ghost use Rattle.influence.specs.Step.{blockOf};
-ghost use Rattle.probability_checks.specs.Sizes.{sizeChecks};
+ghost use Rattle.probability_checks.specs.Sizes.{stepSizes};
 use rules::Offset;
 use rules::World;
 
@@ -76,7 +76,7 @@ fn sizes_refused(
     bcols: usize,
     radius: usize,
 ) -> u8
-    ensures { λ r. ⌜ r ≡ refusal (sizeChecks (now (plane .entry)) rows cols count (blockOf brows bcols (now (block .entry))) radius) ⌝ }
+    ensures { λ r. ⌜ r ≡ refusal (stepSizes (now (plane .entry)) rows cols count (blockOf brows bcols (now (block .entry))) radius) ⌝ }
 {
     if !checks::board_sides(rows, cols) {
         return rules::SHAPE;

@@ -13,19 +13,19 @@ use Rattle.rules.specs.Forced.{queued, offered, queueOf, isQueued, withPosition
 use Rattle.rules.specs.declared.ForcedPosition.{ForcedPosition}
 use Rattle.rules.specs.declared.ForcedPositions.{ForcedPositions}
 use Rattle.rules.specs.declared.ForcedPipeline.{ForcedPipeline}
-use Rattle.queue.specs.Runs.{fresh, noneTwice, Call, adding, taking, left, comesIn, goesOut, positionIn, leftAfter, allIn, allOut}
+use Rattle.queue.specs.Runs.{newOnes, noneTwice, Call, adding, taking, left, comesIn, goesOut, positionIn, queueAfter, allIn, allOut}
 use Rattle.entries.proofs.Entries.{queued-of}
 use Rattle.entries.proofs.Growth.{with-old, with-new, with-one, with-none}
 
 -- the new places stand behind the old ones, in the order in which they were offered
-pub appended : (l more : List ForcedPosition) → withPositions l more ≡ l ++ fresh l more
-unfolding fresh
+pub appended : (l more : List ForcedPosition) → withPositions l more ≡ l ++ newOnes l more
+unfolding newOnes
 appended l [] = with-none l ∙ sym (append-nil l)
 appended l (e ∷ more) =
     with-one l e more
     ∙ by-test (isQueued (e .coordinates) l)
     (λ h. rw (with-old l e h, h) (appended l more))
-    (λ h. rw (with-new l e h, h) (appended (l ++ (e ∷ [])) more ∙ append-assoc l (e ∷ []) (fresh (l ++ (e ∷ [])) more)))
+    (λ h. rw (with-new l e h, h) (appended (l ++ (e ∷ [])) more ∙ append-assoc l (e ∷ []) (newOnes (l ++ (e ∷ [])) more)))
 
 -- no place is queued twice
 twice-last : (before l : List ForcedPosition) (e : ForcedPosition) → noneTwice before l ≡ true
@@ -70,16 +70,16 @@ keeps q (adding p) = adding-keeps q p (refusal (addChecks q p)) refl
 keeps q taking = taking-keeps q (refusal (queueChecks q)) refl
 
 -- first in, first out: over a run, what was queued and then all that comes in is, in this order, all that goes out and then what is left
-pub first-in-first-out : (q : ForcedPipeline) (cs : List Call) → queued q ++ allIn q cs ≡ allOut q cs ++ queued (leftAfter q cs)
-unfolding allIn allOut leftAfter
+pub first-in-first-out : (q : ForcedPipeline) (cs : List Call) → queued q ++ allIn q cs ≡ allOut q cs ++ queued (queueAfter q cs)
+unfolding allIn allOut queueAfter
 first-in-first-out q [] = append-nil (queued q)
 first-in-first-out q (c ∷ cs) =
     sym (append-assoc (queued q) (comesIn q c) (allIn (left q c) cs))
     ∙ ap (λ (l : List ForcedPosition). l ++ allIn (left q c) cs) (keeps q c)
     ∙ append-assoc (goesOut q c) (queued (left q c)) (allIn (left q c) cs)
     ∙ ap (λ (l : List ForcedPosition). goesOut q c ++ l) (first-in-first-out (left q c) cs)
-    ∙ sym (append-assoc (goesOut q c) (allOut (left q c) cs) (queued (leftAfter (left q c) cs)))
+    ∙ sym (append-assoc (goesOut q c) (allOut (left q c) cs) (queued (queueAfter (left q c) cs)))
 
 -- from a new queue on: what has gone out, and then what still waits, is what has come in
-pub from-new : (cs : List Call) → allIn (queueOf []) cs ≡ allOut (queueOf []) cs ++ queued (leftAfter (queueOf []) cs)
+pub from-new : (cs : List Call) → allIn (queueOf []) cs ≡ allOut (queueOf []) cs ++ queued (queueAfter (queueOf []) cs)
 from-new cs = ap (λ (l : List ForcedPosition). l ++ allIn (queueOf []) cs) (sym (queued-of [])) ∙ first-in-first-out (queueOf []) cs

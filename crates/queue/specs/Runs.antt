@@ -11,9 +11,9 @@ use Rattle.rules.specs.declared.Next.{Next}
 use Rattle.rules.specs.declared.Next.the-variants.{Taken, Nothing, Refused}
 
 -- of the positions offered those whose place is not queued by then, in order
-unfoldable pub fresh : List ForcedPosition → List ForcedPosition → List ForcedPosition
-fresh l [] = []
-fresh l (e ∷ more) = pick (isQueued (e .coordinates) l) (fresh l more) (e ∷ fresh (l ++ (e ∷ [])) more)
+unfoldable pub newOnes : List ForcedPosition → List ForcedPosition → List ForcedPosition
+newOnes l [] = []
+newOnes l (e ∷ more) = pick (isQueued (e .coordinates) l) (newOnes l more) (e ∷ newOnes (l ++ (e ∷ [])) more)
 
 -- no place stands in l twice, nor in l and among those before it
 unfoldable pub noneTwice : List ForcedPosition → List ForcedPosition → Bool
@@ -29,7 +29,7 @@ left q (adding p) = grownBy q p .queue
 left q taking = takenFrom q .queue
 
 unfoldable pub comesIn : ForcedPipeline → Call → List ForcedPosition
-comesIn q (adding p) = unlessRefused (refusal (addChecks q p)) (fresh (queued q) (offered p)) []
+comesIn q (adding p) = unlessRefused (refusal (addChecks q p)) (newOnes (queued q) (offered p)) []
 comesIn q taking = []
 
 abbrev pub positionIn : Next → List ForcedPosition
@@ -42,9 +42,9 @@ goesOut q (adding p) = []
 goesOut q taking = positionIn (takenFrom q .next)
 
 -- the same of a run, from its first call on
-unfoldable pub leftAfter : ForcedPipeline → List Call → ForcedPipeline
-leftAfter q [] = q
-leftAfter q (c ∷ cs) = leftAfter (left q c) cs
+unfoldable pub queueAfter : ForcedPipeline → List Call → ForcedPipeline
+queueAfter q [] = q
+queueAfter q (c ∷ cs) = queueAfter (left q c) cs
 
 unfoldable pub allIn : ForcedPipeline → List Call → List ForcedPosition
 allIn q [] = []

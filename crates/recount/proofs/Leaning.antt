@@ -13,7 +13,7 @@ use Rattle.rules.specs.declared.World.{World}
 use Rattle.rules.specs.declared.Offset.{Offset}
 use Rattle.windows.specs.Ready.{Countable}
 use Rattle.windows.proofs.Accepted.{accepted-ready}
-use Rattle.recount.specs.Checks.{planesChecks}
+use Rattle.recount.specs.Checks.{planesAlone}
 
 module _ (counts pieces : List ℕ) (rows cols : ℕ) (tiles : List ℕ) (count : ℕ) where
   pub record Planed : Type 0 where
@@ -21,7 +21,7 @@ module _ (counts pieces : List ℕ) (rows cols : ℕ) (tiles : List ℕ) (count 
     pub lengths : hasLength counts (rows * cols) ≡ true
     pub ready : Countable pieces rows cols tiles
 
-  pub planed : refusal (planesChecks counts pieces rows cols tiles count) ≡ 0 → Planed
+  pub planed : refusal (planesAlone counts pieces rows cols tiles count) ≡ 0 → Planed
   planed e =
       let a = passed 0 (boardSides rows cols) _ e in
       let b = passed 1 (hasLength counts (rows * cols)) _ (a .1) in
@@ -35,12 +35,12 @@ module _ (counts pieces : List ℕ) (rows cols : ℕ) (tiles : List ℕ) (count 
       record { sides = a .0; lengths = b .0; ready = accepted-ready pieces rows cols tiles count (sym z) .tried }
 
   module _ (w : World) (o : Offset) where
-    pub planes-stopped : (n : ℕ) → n ≡ refusal (planesChecks counts pieces rows cols tiles count) → (n ≡ 0 → ⊥)
+    pub planes-stopped : (n : ℕ) → n ≡ refusal (planesAlone counts pieces rows cols tiles count) → (n ≡ 0 → ⊥)
         → n ≡ refusal (recountChecks counts pieces rows cols tiles count w o)
     unfolding _then_
-    planes-stopped n e h = stopped n (planesChecks counts pieces rows cols tiles count) (placeChecks rows cols w o accepted) e h
+    planes-stopped n e h = stopped n (planesAlone counts pieces rows cols tiles count) (placeChecks rows cols w o accepted) e h
 
-    pub planes-went-on : (n m : ℕ) → n ≡ refusal (planesChecks counts pieces rows cols tiles count) → n ≡ 0 → m ≡ refusal (placeChecks rows cols w o accepted)
+    pub planes-went-on : (n m : ℕ) → n ≡ refusal (planesAlone counts pieces rows cols tiles count) → n ≡ 0 → m ≡ refusal (placeChecks rows cols w o accepted)
         → m ≡ refusal (recountChecks counts pieces rows cols tiles count w o)
     unfolding _then_ numbered
-    planes-went-on n m e z q = went-on (planesChecks counts pieces rows cols tiles count) (placeChecks rows cols w o accepted) refl e z q
+    planes-went-on n m e z q = went-on (planesAlone counts pieces rows cols tiles count) (placeChecks rows cols w o accepted) refl e z q

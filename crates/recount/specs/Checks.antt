@@ -31,8 +31,8 @@ abbrev pub recountedAt : List ℕ → List ℕ → ℕ → ℕ → Cell → List
 recountedAt tiles pieces rows cols cell l i =
     pick (isNear rows cols cell i) (fitCount tiles (pattern (flat rows cols) pieces i)) (getD l i 0)
 
-abbrev pub contentsChecks : List ℕ → List ℕ → List ℕ → ℕ → ℕ → Checks
-contentsChecks counts pieces tiles count n = countedContents tiles count pieces counts n accepted
+abbrev pub countedAlone : List ℕ → List ℕ → List ℕ → ℕ → ℕ → Checks
+countedAlone counts pieces tiles count n = countedContents tiles count pieces counts n accepted
 
-abbrev pub planesChecks : List ℕ → List ℕ → ℕ → ℕ → List ℕ → ℕ → Checks
-planesChecks counts pieces rows cols tiles count = countedPlanes counts pieces rows cols tiles count accepted
+abbrev pub planesAlone : List ℕ → List ℕ → ℕ → ℕ → List ℕ → ℕ → Checks
+planesAlone counts pieces rows cols tiles count = countedPlanes counts pieces rows cols tiles count accepted

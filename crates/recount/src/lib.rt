@@ -12,7 +12,7 @@ ghost use Rattle.rules.specs.Board.{recounted, recountChecks, afterRecount};
 ghost use Rattle.pattern.specs.Ready.{OnGrid};
 ghost use Rattle.windows.specs.Ready.{Countable};
 ghost use Rattle.nearness.specs.Near.{OnPlane, InRow, Nearby};
-ghost use Rattle.recount.specs.Checks.{countAfter, recountedAt, contentsChecks, planesChecks};
+ghost use Rattle.recount.specs.Checks.{countAfter, recountedAt, countedAlone, planesAlone};
 use checks::board_sides;
 use checks::cells_of;
 use checks::colour_count;
@@ -109,7 +109,7 @@ pub fn recount_near(
 // COUNT, and CELL of all that is read, 0 where all pass; n is the number of tiles.
 fn contents_refused(counts: &[u32], pieces: &[u32], tiles: &[u8], count: u32, n: usize) -> u8
     requires { ⌜ n ≤ maxTiles ⌝ }
-    ensures { λ r. ⌜ r ≡ refusal (contentsChecks (now (counts .entry)) (now (pieces .entry)) (now (tiles .entry)) count n) ⌝ }
+    ensures { λ r. ⌜ r ≡ refusal (countedAlone (now (counts .entry)) (now (pieces .entry)) (now (tiles .entry)) count n) ⌝ }
 {
     if !colour_count(count) {
         return rules::COUNT;
@@ -135,7 +135,7 @@ fn planes_refused(
     tiles: &[u8],
     count: u32,
 ) -> u8
-    ensures { λ r. ⌜ r ≡ refusal (planesChecks (now (counts .entry)) (now (pieces .entry)) rows cols (now (tiles .entry)) count) ⌝ }
+    ensures { λ r. ⌜ r ≡ refusal (planesAlone (now (counts .entry)) (now (pieces .entry)) rows cols (now (tiles .entry)) count) ⌝ }
 {
     if !board_sides(rows, cols) {
         return rules::SHAPE;

@@ -28,7 +28,7 @@ use Rattle.jobs.proofs.Forming.{Starts, layBy, liftBy, lays, lifts, step-at, no
 use Rattle.lines.specs.Lines.{numberLine}
 use Rattle.lines.specs.Pages.{Writes}
 use Rattle.lines.proofs.Written.{writes-none, writes-then, writes-as}
-use Rattle.stepping.specs.Steps.{placeOf, answerTo, boardAfter, answersText, boardIn}
+use Rattle.stepping.specs.Steps.{placeAt, answerTo, boardAfter, answersText, boardIn}
 use Rattle.boundary.specs.Boundary.{layNumber, liftNumber}
 use Rattle.stepping.specs.Walks.{Walks, stepAt, Stepped, Ran}
 
@@ -140,7 +140,7 @@ pub running-none : (j : Job) (ns : List ℕ) (b : Board) (p at : ℕ) (x : List 
 running-none j ns b p at x w = record { walks = w; boards = refl; texts = λ r z g. g }
 
 -- ---- one step of the board's calls
-pub took-lay : {a : LayAnswer} {w : World} {c : Board} {n : ℕ} (j : Job) (b : Board) (s : Step) (row col colour : ℕ) → s ≡ lay row col colour → w ≡ placeOf row col
+pub took-lay : {a : LayAnswer} {w : World} {c : Board} {n : ℕ} (j : Job) (b : Board) (s : Step) (row col colour : ℕ) → s ≡ lay row col colour → w ≡ placeAt row col
     → Gives (laying j b w colour) (afterLay j b w colour) a c → n ≡ layNumber a → Gives (answerTo j b s) (boardAfter j b s) n c
 unfolding answerTo boardAfter
 took-lay {w = w} j b s row col colour e p g q =
@@ -150,7 +150,7 @@ took-lay {w = w} j b s row col colour e p g q =
       leaves = g .leaves ∙ ap (λ (v : World). afterLay j b v colour) p;
     })
 
-pub took-lift : {a : LiftAnswer} {w : World} {c : Board} {n : ℕ} (j : Job) (b : Board) (s : Step) (row col : ℕ) → s ≡ lift row col → w ≡ placeOf row col
+pub took-lift : {a : LiftAnswer} {w : World} {c : Board} {n : ℕ} (j : Job) (b : Board) (s : Step) (row col : ℕ) → s ≡ lift row col → w ≡ placeAt row col
     → Gives (lifting j b w) (afterLift j b w) a c → n ≡ liftNumber a → Gives (answerTo j b s) (boardAfter j b s) n c
 unfolding answerTo boardAfter
 took-lift {w = w} j b s row col e p g q =

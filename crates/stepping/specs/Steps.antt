@@ -10,16 +10,16 @@ use Rattle.jobs.specs.Form.{Step, lay, lift}
 use Rattle.lines.specs.Lines.{numberLine}
 
 -- Offset 0: a row and a column are the wall coordinate and the cell index alike
-abbrev pub placeOf : ℕ → ℕ → World
-placeOf row col = record { 0 = pos row; 1 = pos col }
+abbrev pub placeAt : ℕ → ℕ → World
+placeAt row col = record { 0 = pos row; 1 = pos col }
 
 unfoldable pub answerTo : Job → Board → Step → ℕ
-answerTo j b (lay row col colour) = refusal (layChecks j b (placeOf row col) colour)
-answerTo j b (lift row col) = refusal (liftChecks j b (placeOf row col))
+answerTo j b (lay row col colour) = refusal (layChecks j b (placeAt row col) colour)
+answerTo j b (lift row col) = refusal (liftChecks j b (placeAt row col))
 
 unfoldable pub boardAfter : Job → Board → Step → Board
-boardAfter j b (lay row col colour) = afterLay j b (placeOf row col) colour
-boardAfter j b (lift row col) = afterLift j b (placeOf row col)
+boardAfter j b (lay row col colour) = afterLay j b (placeAt row col) colour
+boardAfter j b (lift row col) = afterLift j b (placeAt row col)
 
 -- one line per step
 unfoldable pub answersText : Job → Board → List Step → List ℕ

@@ -6,7 +6,7 @@ ghost use Rattle.base.specs.Refusal.{Gives};
 ghost use Rattle.planes.specs.Planes.{board};
 ghost use Rattle.jobs.specs.Form.{stepsIn, listOf};
 ghost use Rattle.words.specs.Input.{maxNumber};
-ghost use Rattle.stepping.specs.Steps.{placeOf, answerTo, boardAfter};
+ghost use Rattle.stepping.specs.Steps.{placeAt, answerTo, boardAfter};
 ghost use Rattle.boundary.specs.Boundary.{layNumber, liftNumber};
 ghost use Rattle.ending.specs.Ending.{jobWith};
 ghost use Rattle.stepping.specs.Walks.{Walks, stepAt, Stepped, Ran};
@@ -36,7 +36,7 @@ fn lift_number(a: LiftAnswer) -> u8
 
 fn place(row: u32, col: u32) -> World
     requires { ⌜ (row ≤ maxNumber) × (col ≤ maxNumber) ⌝ }
-    ensures { λ r. ⌜ r ≡ placeOf row col ⌝ }
+    ensures { λ r. ⌜ r ≡ placeAt row col ⌝ }
 {
     World(row as i32, col as i32)
 }

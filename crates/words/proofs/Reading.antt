@@ -17,7 +17,7 @@ use Rattle.base.specs.Tables.{fold}
 use Rattle.base.proofs.Bools.{and-both, and-no-left, and-no-right, by-test}
 use Rattle.base.proofs.Numbers.{within-is}
 use Rattle.base.proofs.Tabled.{fold-append, fold-last}
-use Rattle.words.specs.Words.{Reading, spoilt, between, inside, isBlank, withDigit, grows, grown, after, bad, numbers, ended, reading, numbersIn, parsedInto, over, storeWith, stateOf, grownState, nextState, bytesRead, foundBy, held, entries, begun, Fits}
+use Rattle.words.specs.Words.{Reading, spoilt, between, inside, isBlank, withDigit, grows, grown, after, bad, numbers, ended, reading, numbersIn, parsedInto, over, numbersStored, stateOf, grownState, nextState, bytesRead, foundBy, held, entries, begun, Fits}
 use Rattle.words.specs.Input.{maxInput, maxNumber, inputBlanks, inputText}
 use Rattle.words.specs.declared.Parsed.the-variants as Parsed·
 use Rattle.words.specs.declared.Found.{Found}
@@ -267,12 +267,12 @@ found-other (between ns) e = absurd (let z : _≡_ {A = ℕ} 0 1 = cc in omega a
 found-other (inside ns n) e = absurd (let z : _≡_ {A = ℕ} 0 1 = cc in omega arith)
 
 module _ (blanks : List ℕ) (limit : ℕ) (text d : List ℕ) (f : Found) (is : f ≡ foundBy (stateOf (reading blanks limit text))) where
-  pub parse-bad : f ≡ Found·.Other → Gives (parsedInto (length d) (numbersIn blanks limit text)) (storeWith (numbersIn blanks limit text) d) Parsed·.Bad d
+  pub parse-bad : f ≡ Found·.Other → Gives (parsedInto (length d) (numbersIn blanks limit text)) (numbersStored (numbersIn blanks limit text) d) Parsed·.Bad d
   unfolding numbersIn
   parse-bad e = rw (found-other (reading blanks limit text) (sym e ∙ is)) (record { answered = refl; leaves = refl })
 
   module _ (n : ℕ) (e : f ≡ Found·.Numbers n) where
-    pub parse-full : length d < n → Gives (parsedInto (length d) (numbersIn blanks limit text)) (storeWith (numbersIn blanks limit text) d) Parsed·.Full d
+    pub parse-full : length d < n → Gives (parsedInto (length d) (numbersIn blanks limit text)) (numbersStored (numbersIn blanks limit text) d) Parsed·.Full d
     unfolding numbersIn
     parse-full h =
         let w = found-numbers (reading blanks limit text) n (sym e ∙ is) in
@@ -283,7 +283,7 @@ module _ (blanks : List ℕ) (limit : ℕ) (text d : List ℕ) (f : Found) (is :
     parse-fits h = found-fits (reading blanks limit text) n (length d) (sym e ∙ is) h
 
     pub parse-done : (x : List ℕ) → n ≤ length d → x ≡ over (begun (reading blanks limit text)) d
-        → Gives (parsedInto (length d) (numbersIn blanks limit text)) (storeWith (numbersIn blanks limit text) d) (Parsed·.Numbers n) x
+        → Gives (parsedInto (length d) (numbersIn blanks limit text)) (numbersStored (numbersIn blanks limit text) d) (Parsed·.Numbers n) x
     unfolding numbersIn
     parse-done x h q =
         let w = found-numbers (reading blanks limit text) n (sym e ∙ is) in

@@ -72,9 +72,9 @@ parsedInto room (numbers ns) = pick (leb (length ns) room) (Parsed·.Numbers (le
 unfoldable pub over : List ℕ → List ℕ → List ℕ
 over ns store = ns ++ drop (length ns) store
 
-abbrev pub storeWith : Text → List ℕ → List ℕ
-storeWith bad store = store
-storeWith (numbers ns) store = pick (leb (length ns) (length store)) (over ns store) store
+abbrev pub numbersStored : Text → List ℕ → List ℕ
+numbersStored bad store = store
+numbersStored (numbers ns) store = pick (leb (length ns) (length store)) (over ns store) store
 
 -- ---- how the code holds a reading: the number of the numbers that are ended in place of the numbers
 

@@ -3,7 +3,7 @@ ghost use mathlib.Core.Path.{_≡_};
 ghost use Prim.Native.Nat.{_<_, _≤_};
 ghost use lib.ListN.{length};
 ghost use Rattle.base.specs.Refusal.{Gives};
-ghost use Rattle.words.specs.Words.{isBlank, withDigit, grownState, nextState, bytesRead, stateOf, reading, foundBy, held, entries, begun, Fits, over, numbersIn, parsedInto, storeWith};
+ghost use Rattle.words.specs.Words.{isBlank, withDigit, grownState, nextState, bytesRead, stateOf, reading, foundBy, held, entries, begun, Fits, over, numbersIn, parsedInto, numbersStored};
 ghost use Rattle.words.specs.Input.{inputText};
 use crate::Found;
 use crate::MAX_INPUT;
@@ -120,7 +120,7 @@ fn keep(store: &mut [u32], text: &[u8], blanks: &[u8], limit: u32)
 
 // Reads the numbers of a text into the store; any other text, and one for which there is no room, leaves it as it was.
 pub fn parse(store: &mut [u32], text: &[u8], blanks: &[u8], limit: u32) -> Parsed
-    ensures { λ r. ⌜ Gives (parsedInto (length (now (store .entry))) (numbersIn (now (blanks .entry)) limit (now (text .entry)))) (storeWith (numbersIn (now (blanks .entry)) limit (now (text .entry))) (now (store .entry))) r (now (store .exit)) ⌝ }
+    ensures { λ r. ⌜ Gives (parsedInto (length (now (store .entry))) (numbersIn (now (blanks .entry)) limit (now (text .entry)))) (numbersStored (numbersIn (now (blanks .entry)) limit (now (text .entry))) (now (store .entry))) r (now (store .exit)) ⌝ }
 {
     let found = survey(text, blanks, limit);
     let Found::Numbers(n) = found else {
@@ -135,7 +135,7 @@ pub fn parse(store: &mut [u32], text: &[u8], blanks: &[u8], limit: u32) -> Parse
 
 // The listing program's input.
 pub fn read_input(store: &mut [u32], input: &[u8]) -> Parsed
-    ensures { λ r. ⌜ Gives (parsedInto (length (now (store .entry))) (inputText (now (input .entry)))) (storeWith (inputText (now (input .entry))) (now (store .entry))) r (now (store .exit)) ⌝ }
+    ensures { λ r. ⌜ Gives (parsedInto (length (now (store .entry))) (inputText (now (input .entry)))) (numbersStored (inputText (now (input .entry))) (now (store .entry))) r (now (store .exit)) ⌝ }
 {
     if MAX_INPUT < input.len() {
         return Parsed::Bad;

@@ -8,7 +8,7 @@ use lib.ListN.{length}
 use lib.Ieee.{nan}
 use Rattle.checks.proofs.Sides.{board-cols}
 use Rattle.rules.specs.Places.{newCols}
-use Rattle.copy_checks.specs.Laid.{laid}
+use Rattle.copy_checks.specs.Laid.{rowsLaid}
 use Rattle.copy_checks.proofs.Copied.{laid-none, laid-more, laid-length, laid-end}
 use Rattle.copy_checks.proofs.Sides.{RowFits, row-fits}
 use Rattle.copy_floats.proofs.lay_rows_f64.Statement.{statement}
@@ -16,7 +16,7 @@ use Rattle.copy_floats.proofs.lay_rows_f64.Tie as tie
 
 abbrev Inv-loop : tie.InvT-loop
 Inv-loop target₀ plane rows cols left top wide i₀ target i =
-    (length target ≡ length target₀) × (i ≤ rows) × (target ≡ laid nan plane i cols left top wide target₀)
+    (length target ≡ length target₀) × (i ≤ rows) × (target ≡ rowsLaid nan plane i cols left top wide target₀)
 
 abbrev μ-loop : tie.MeasureT-loop
 μ-loop target₀ plane rows cols left top wide i₀ target i = rows - i

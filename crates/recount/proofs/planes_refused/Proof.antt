@@ -6,7 +6,7 @@ use Rattle.base.proofs.Chain.{refuse, pass, refuse-by, pass-by}
 use Rattle.base.specs.Refusal.{refusal}
 use Rattle.rules.specs.Tests.{hasLength}
 use Rattle.checks.proofs.Tiled.{not-whole, is-whole, so-many, few-tiles}
-use Rattle.recount.specs.Checks.{contentsChecks}
+use Rattle.recount.specs.Checks.{countedAlone}
 use borrow.Author.Needs.{needs}
 use Rattle.recount.proofs.planes_refused.Statement.{statement}
 use Rattle.recount.proofs.planes_refused.Tie as tie
@@ -63,7 +63,7 @@ returns-5 c =
     (pass _ _ _ (c .before .before .before .before .before .before .before .before .words-have-length .ensures ∙ ap (λ (m : ℕ). hasLength (c .before .before .before .before .before .before .before .before .before .before .before .before .before .before .before .args .counts .now) m) (c .before .before .before .before .before .before .before .before .before .cells-of .ensures)) (c .before .before .before .before .before .before .before .if2 .left)
     (pass _ _ _ (c .before .before .before .before .before .before .words-have-length2 .ensures ∙ ap (λ (m : ℕ). hasLength (c .before .before .before .before .before .before .before .before .before .before .before .before .before .before .before .args .pieces .now) m) (c .before .before .before .before .before .before .before .before .before .cells-of .ensures)) (c .before .before .before .before .before .if3 .left)
     (pass-by _ _ _ (is-whole _ _ (c .before .before .before .before .tile-number .ensures) _ (c .before .before .n .given .1))
-    (c .contents-refused .ensures ∙ ap (λ (m : ℕ). refusal (contentsChecks (a .counts .now) (a .pieces .now) (a .tiles .now) (a .count) m)) (so-many _ _ (c .before .before .before .before .tile-number .ensures) _ (c .before .before .n .given .1))))))
+    (c .contents-refused .ensures ∙ ap (λ (m : ℕ). refusal (countedAlone (a .counts .now) (a .pieces .now) (a .tiles .now) (a .count) m)) (so-many _ _ (c .before .before .before .before .tile-number .ensures) _ (c .before .before .n .given .1))))))
 
 pub planes-refused-spec : {M : Type 1} → statement M
 planes-refused-spec =
