@@ -12,7 +12,8 @@ use lib.Dec.{leb}
 use Rattle.base.specs.Counting.{within}
 use Rattle.base.specs.Tables.{fold}
 use Rattle.base.proofs.Bools.{and-right, by-test}
-use Rattle.words.specs.Words.{Reading, spoilt, between, inside, isBlank, withDigit, grows, grown, after, bad, numbers, ended, reading, numbersIn, stateOf, bytesRead}
+use Rattle.words.specs.Words.{Reading, spoilt, between, inside, isBlank, withDigit, grows, grown, after, bad, numbers, ended, reading, numbersIn}
+use Rattle.words.specs.States.{stateOf, bytesRead}
 use Rattle.words.specs.Input.{maxInput, maxNumber, inputBlanks, inputText}
 use Rattle.words.proofs.Reading.{input-short, input-long, reading-few}
 

@@ -17,7 +17,8 @@ use Rattle.base.specs.Tables.{fold}
 use Rattle.base.proofs.Bools.{and-both, and-no-left, and-no-right, by-test}
 use Rattle.base.proofs.Numbers.{within-is}
 use Rattle.base.proofs.Tabled.{fold-append, fold-last}
-use Rattle.words.specs.Words.{Reading, spoilt, between, inside, isBlank, withDigit, grows, grown, after, bad, numbers, ended, reading, numbersIn, parsedInto, over, numbersStored, stateOf, grownState, nextState, bytesRead, foundBy, held, entries, begun, Fits}
+use Rattle.words.specs.Words.{Reading, spoilt, between, inside, isBlank, withDigit, grows, grown, after, bad, numbers, ended, reading, numbersIn, parsedInto, over, numbersStored}
+use Rattle.words.specs.States.{stateOf, grownState, nextState, bytesRead, foundBy, held, entries, begun, Fits}
 use Rattle.words.specs.Input.{maxInput, maxNumber, inputBlanks, inputText}
 use Rattle.words.specs.declared.Parsed.the-variants as Parsed·
 use Rattle.words.specs.declared.Found.{Found}

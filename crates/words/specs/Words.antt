@@ -1,18 +1,14 @@
 -- Decimal numbers parted by white space: what a text of bytes makes. Which bytes are white space and how large a number may be is for
 -- the caller to say.
-use Prim.Native.Nat.{ℕ, _+_, _-_, _*_, _<_, _≤_, min}
+use Prim.Native.Nat.{ℕ, _+_, _-_, _*_}
 use mathlib.Core.Bool.{Bool, _&&_}
 use mathlib.Core.List.{List, [], _∷_, _++_}
 use lib.Dec.{leb, eqb}
-use lib.ListN.{length, getD, set, drop}
+use lib.ListN.{length, getD, drop}
 use Rattle.base.specs.Counting.{pick, some, within}
 use Rattle.base.specs.Tables.{fold}
 use Rattle.words.specs.declared.Parsed.{Parsed}
 use Rattle.words.specs.declared.Parsed.the-variants as Parsed·
-use Rattle.words.specs.declared.Found.{Found}
-use Rattle.words.specs.declared.Found.the-variants as Found·
-use Rattle.words.specs.declared.State.{State}
-use Rattle.words.specs.declared.State.the-variants.{Spoilt, Between, Inside}
 
 -- what has been read: the numbers that are ended and, inside one, what its digits make so far
 pub data Reading : Type 0 where
@@ -26,12 +22,9 @@ isByte blanks b k = eqb (getD blanks k 0) b
 unfoldable pub isBlank : List ℕ → ℕ → Bool
 isBlank blanks b = some (length blanks) (isByte blanks b)
 
--- a digit more; a number past 4,294,967,295 stays there
-abbrev pub saturated : ℕ
-saturated = 4294967295
-
+-- a digit more
 unfoldable pub withDigit : ℕ → ℕ → ℕ
-withDigit n b = min saturated (n * 10 + (b - 48))
+withDigit n b = n * 10 + (b - 48)
 
 -- the byte is a digit, and the number with it is not too large
 unfoldable pub grows : ℕ → ℕ → ℕ → Bool
@@ -75,52 +68,3 @@ over ns store = ns ++ drop (length ns) store
 abbrev pub numbersStored : Text → List ℕ → List ℕ
 numbersStored bad store = store
 numbersStored (numbers ns) store = pick (leb (length ns) (length store)) (over ns store) store
-
--- ---- how the code holds a reading: the number of the numbers that are ended in place of the numbers
-
-abbrev pub stateOf : Reading → State
-stateOf spoilt = Spoilt
-stateOf (between ns) = Between (length ns)
-stateOf (inside ns n) = Inside (length ns) n
-
-abbrev pub grownState : ℕ → ℕ → ℕ → ℕ → State
-grownState limit k n b = pick (grows limit n b) (Inside k (withDigit n b)) Spoilt
-
-unfoldable pub nextState : List ℕ → ℕ → State → ℕ → State
-nextState blanks limit Spoilt b = Spoilt
-nextState blanks limit (Between k) b = pick (isBlank blanks b) (Between k) (grownState limit k 0 b)
-nextState blanks limit (Inside k n) b = pick (isBlank blanks b) (Between (k + 1)) (grownState limit k n b)
-
--- as many bytes at the least have been read: a number has a digit, and a blank after it
-abbrev pub bytesRead : State → ℕ
-bytesRead Spoilt = 0
-bytesRead (Between k) = k + k
-bytesRead (Inside k n) = k + k + 1
-
-abbrev pub foundBy : State → Found
-foundBy Spoilt = Found·.Other
-foundBy (Between k) = Found·.Numbers k
-foundBy (Inside k n) = Found·.Numbers (k + 1)
-
--- a number is stored with each of its digits
-abbrev pub held : State → List ℕ → List ℕ
-held Spoilt store = store
-held (Between k) store = store
-held (Inside k n) store = set store k n
-
-abbrev pub entries : State → ℕ
-entries Spoilt = 0
-entries (Between k) = k
-entries (Inside k n) = k + 1
-
--- the numbers that are begun
-abbrev pub begun : Reading → List ℕ
-begun spoilt = []
-begun (between ns) = ns
-begun (inside ns n) = ns ++ n ∷ []
-
--- a text of numbers, for all of which there is room
-abbrev pub Fits : ℕ → Reading → Type 0
-Fits room spoilt = ⊥
-Fits room (between ns) = length ns ≤ room
-Fits room (inside ns n) = length ns < room

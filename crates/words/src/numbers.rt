@@ -3,7 +3,8 @@ ghost use mathlib.Core.Path.{_≡_};
 ghost use Prim.Native.Nat.{_<_, _≤_};
 ghost use lib.ListN.{length};
 ghost use Rattle.base.specs.Refusal.{Gives};
-ghost use Rattle.words.specs.Words.{isBlank, withDigit, grownState, nextState, bytesRead, stateOf, reading, foundBy, held, entries, begun, Fits, over, numbersIn, parsedInto, numbersStored};
+ghost use Rattle.words.specs.Words.{isBlank, withDigit, reading, over, numbersIn, parsedInto, numbersStored};
+ghost use Rattle.words.specs.States.{grownState, nextState, bytesRead, stateOf, foundBy, held, entries, begun, Fits};
 ghost use Rattle.words.specs.Input.{inputText};
 use crate::Found;
 use crate::MAX_INPUT;
@@ -24,16 +25,12 @@ fn is_blank(blanks: &[u8], b: u8) -> bool
     false
 }
 
-// The number n with the digit b after it. It saturates, so that a number of any length is read.
-fn with_digit(n: u32, b: u8) -> u32
+// The number n with the digit b after it, in 64 bits, since it is held against the limit only then.
+fn with_digit(n: u32, b: u8) -> u64
     requires { ⌜ 48 ≤ b ⌝ }
     ensures { λ r. ⌜ r ≡ withDigit n b ⌝ }
 {
-    let next = n as u64 * 10 + (b - 48) as u64;
-    if 4_294_967_295 < next {
-        return 4_294_967_295;
-    }
-    next as u32
+    n as u64 * 10 + (b - 48) as u64
 }
 
 fn grown_by(limit: u32, k: usize, n: u32, b: u8) -> State
@@ -46,10 +43,11 @@ fn grown_by(limit: u32, k: usize, n: u32, b: u8) -> State
         return State::Spoilt;
     }
     let next = with_digit(n, b);
-    if limit < next {
+    if (limit as u64) < next {
         return State::Spoilt;
     }
-    State::Inside(k, next)
+    let number = next as u32;
+    State::Inside(k, number)
 }
 
 // One byte more.

@@ -1,7 +1,7 @@
 -- `words::numbers::after_byte` meets its contract, exit by exit. Assumes nothing.
 use mathlib.Core.Path.{sym, _∙_, ap}
 use native.Mathlib.Omega.{arith}
-use Rattle.words.specs.Words.{bytesRead}
+use Rattle.words.specs.States.{bytesRead}
 use Rattle.words.proofs.Reading.{next-spoilt, next-blank, next-first, next-end, next-digit}
 use borrow.Author.Needs.{needs}
 use Rattle.words.proofs.numbers.after_byte.Statement.{statement}

@@ -1,4 +1,5 @@
--- `words::numbers::grown_by` meets its contract, exit by exit. Assumes nothing.
+-- `words::numbers::grown_by` meets its contract, exit by exit; the last cast loses nothing, since the number is within the limit.
+-- Assumes nothing.
 use Rattle.words.proofs.Reading.{below-digits, above-digits, too-large, a-digit}
 use borrow.Author.Needs.{needs}
 use Rattle.words.proofs.numbers.grown_by.Statement.{statement}
@@ -16,8 +17,11 @@ with-digit-requires c κs = search needs
 returns-3 : tie.Need-returns-3
 returns-3 c = too-large _ _ _ _ _ (c .before .with-digit .ensures) (c .if3 .taken)
 
+cast-number : tie.Need-cast-number
+cast-number c = search needs
+
 returns-4 : tie.Need-returns-4
 returns-4 c = a-digit _ _ _ _ _ (c .before .before .before .if1 .left) (c .before .before .if2 .left) (c .before .with-digit .ensures) (c .if3 .left)
 
 pub grown-by-spec : {M : Type 1} → statement M
-grown-by-spec = tie.close (tie.spec returns returns-2 with-digit-requires returns-3 returns-4)
+grown-by-spec = tie.close (tie.spec returns returns-2 with-digit-requires returns-3 cast-number returns-4)

@@ -2,7 +2,7 @@
 use mathlib.Core.Path.{sym, ap}
 use native.Mathlib.Omega.{arith}
 use Rattle.words.specs.declared.State.{State}
-use Rattle.words.specs.Words.{held, entries}
+use Rattle.words.specs.States.{held, entries}
 use borrow.Author.Needs.{needs}
 use Rattle.words.proofs.numbers.hold.Statement.{statement}
 use Rattle.words.proofs.numbers.hold.Tie as tie

@@ -3,7 +3,7 @@ use mathlib.Core.Path.{sym, _∙_, ap}
 use native.Mathlib.Omega.{arith}
 use Prim.Native.Nat.{_-_}
 use lib.ListN.{length}
-use Rattle.words.specs.Words.{foundBy, bytesRead}
+use Rattle.words.specs.States.{foundBy, bytesRead}
 use Rattle.words.proofs.Reading.{Counted, counted-none, counted-turn, counted-all}
 use borrow.Author.Needs.{needs}
 use Rattle.words.proofs.numbers.survey.Statement.{statement}
