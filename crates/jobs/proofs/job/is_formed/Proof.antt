@@ -1,4 +1,4 @@
--- `words::job::is_formed` meets its contract. Assumes nothing.
+-- `jobs::job::is_formed` meets its contract. Assumes nothing.
 use mathlib.Core.Path.{sym, _∙_, ap}
 use native.Mathlib.Omega.{arith}
 use Rattle.jobs.specs.Form.{isFormed, tailFits}

@@ -1,4 +1,4 @@
--- `words::job::sides_up_to` meets its contract. Assumes nothing.
+-- `jobs::job::sides_up_to` meets its contract. Assumes nothing.
 use mathlib.Core.Path.{sym, _∙_}
 use Rattle.jobs.specs.Form.{sidesUpTo}
 use Rattle.base.proofs.Bools.{and-go, and-stop}
