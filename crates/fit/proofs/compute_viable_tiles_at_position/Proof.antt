@@ -1,4 +1,5 @@
--- `fit::compute_viable_tiles_at_position` meets its contract: the checks of pieces and tiles, then of the place, then the list. Assumes nothing.
+-- `fit::compute_viable_tiles_at_position` meets its contract: the checks of pieces and tiles, then of the place, then the list.
+-- Assumes nothing.
 use Prim.Native.Nat.{_+_, _*_}
 use mathlib.Core.Path.{refl, sym, _∙_, ap}
 use Rattle.base.specs.Refusal.{accepted}

@@ -1,4 +1,4 @@
--- `stepping::step` meets its contract. Assumes nothing.
+-- `stepping::step` meets its contract: the step is taken, and its answer written on a line of its own. Assumes nothing.
 use Rattle.stepping.proofs.Walking.{stepped}
 use borrow.Author.Needs.{needs}
 use Rattle.stepping.proofs.step.Statement.{statement}

@@ -1,4 +1,5 @@
--- `stepping::take_step` meets its contract. Assumes nothing.
+-- `stepping::take_step` meets its contract: the first number decides between lay and lift; the numbers of the step are all there.
+-- Assumes nothing.
 use native.Mathlib.Omega.{arith}
 use Prim.Native.Nat.{_+_}
 use Rattle.ending.specs.Ending.{jobWith}

@@ -1,4 +1,4 @@
--- `words::numbers::with_digit` meets its contract. Assumes nothing.
+-- `words::numbers::with_digit` meets its contract: the sum is taken in 64 bits and stops at the largest 32-bit number. Assumes nothing.
 use native.Mathlib.Omega.{arith}
 use Rattle.words.specs.Words.{withDigit}
 use borrow.Author.Needs.{needs}
