@@ -50,9 +50,6 @@ pub tested : {z : ℤ} {A : ℕ} → mag z < A → T (leb A (2 ^ 31)) → Reads 
 tested h t = given (small h t) h
 
 -- a literal, and an unsigned number after its cast to i32
-pub zero-is : Reads 0 (pos 0) 1
-zero-is = record { is = refl; low = omega arith }
-
 pub one-is : Reads 1 (pos 1) 2
 one-is = record { is = refl; low = omega arith }
 
@@ -84,9 +81,6 @@ module _ {n m : ℕ} {z y : ℤ} {A B : ℕ} (p : Reads n z A) (q : Reads m y B)
 
   pub subbed : T (leb (A + (B + 1)) (2 ^ 31)) → Reads (subB n m) (z -ℤ y) (A + (B + 1))
   subbed t = record { is = toZ-ofZ (sub-fits t) ∙ rw (p .is, q .is); low = add-in z (negℤ y) (p .low) (neg-in y (q .low)) }
-
-pub seen : {n : ℕ} {z : ℤ} {A : ℕ} → Reads n z A → (B : ℕ) → T (leb A B) → mag (toZ w32 n) < B
-seen {n} {z} {A} p B t = rw (p .is) (lt-of-lt-of-le (p .low) (leb→le A B t))
 
 -- what the test `z < 0` leaves of `clip`
 pub not-below : (z : ℤ) → ltZ z (pos 0) ≡ false → T (nonNeg z)

@@ -13,7 +13,7 @@ use lib.ListN.{length, getD, take, drop}
 use borrow.Author.Tests.{lt-leb, le-ltb, le-leb, lt-ltb}
 use Rattle.base.specs.Tables.{tab}
 use Rattle.base.proofs.Bools.{and-both, and-no-left, and-no-right}
-use Rattle.base.proofs.Numbers.{row-of, col-of, row-lt}
+use Rattle.base.proofs.Numbers.{col-of, row-lt}
 use Rattle.rules.specs.Scores.{inSpan}
 use Rattle.rules.specs.declared.Span.{Span}
 use Rattle.floats.specs.Spans.{RegionFits}
@@ -29,11 +29,6 @@ pub inside : (s : Span) (x : ℕ) → s .0 ≤ x → x < s .1 → inSpan s x ≡
 inside s x h k = and-both _ _ (le-leb _ _ h) (lt-ltb _ _ k)
 
 -- a cell of row r
-pub at-row : (r k cols : ℕ) → r * cols ≤ k → k < r * cols + cols → k / cols ≡ r
-at-row r k cols h b =
-    let e : k ≡ r * cols + (k - r * cols) = omega arith in
-    ap (λ (n : ℕ). n / cols) e ∙ row-of r (omega arith)
-
 pub at-col : (r k cols : ℕ) → r * cols ≤ k → k < r * cols + cols → k % cols ≡ k - r * cols
 at-col r k cols h b =
     let e : k ≡ r * cols + (k - r * cols) = omega arith in

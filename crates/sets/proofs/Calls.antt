@@ -1,14 +1,13 @@
 -- The exits of a call whose answer is an enum: a refusal with its number, or the result. For any kind of answer,
 -- and for sets; and what a caller has of a set that is said to be `setOf n f`.
 -- Assumes nothing.
-use Prim.Native.Nat.{ℕ, zero, suc, _^_, _<_}
+use Prim.Native.Nat.{ℕ, zero, suc}
 use mathlib.Core.Path.{_≡_, refl, sym, _∙_, ap}
 use mathlib.Core.Bool.{Bool}
 use Rattle.rules.specs.Answers.{setAnswer}
 use Rattle.rules.specs.Sets.{bitsOf, setOf}
 use Rattle.rules.specs.declared.TileBitset.{TileBitset}
 use Rattle.rules.specs.declared.SetAnswer.the-variants.{Set, Refused}
-use Rattle.sets.proofs.Digits.{bits-lt}
 
 -- an answer of any kind: its refusals and its result
 module _ {A B : Type 0} (answer : ℕ → A → B) (refused : ℕ → B) (told : A → B) (no : (n : ℕ) (a : A) → answer (suc n) a ≡ refused (suc n))
@@ -31,11 +30,5 @@ sized n x = record { bits = x; size = n }
 
 -- what a caller has of a set that is said to be `setOf n f`
 module _ (s : TileBitset) (n : ℕ) (f : ℕ → Bool) (e : s ≡ setOf n f) where
-  pub set-size : s .size ≡ n
-  set-size = ap (λ (x : TileBitset). x .size) e
-
   pub set-bits : s .bits ≡ bitsOf n f
   set-bits = ap (λ (x : TileBitset). x .bits) e
-
-  pub set-lt : s .bits < 2 ^ (s .size)
-  set-lt = rw e (bits-lt n f)
