@@ -1,6 +1,6 @@
 // The pads along one side and along both. A sum of coordinates, offsets, sides and pads is taken in 64 bits, where none overflows.
 ghost use mathlib.Core.Path.{_≡_};
-ghost use mathlib.Core.Bool.{Bool, true};
+ghost use mathlib.Core.Bool.{true};
 ghost use Prim.Native.Nat.{_-_, _≤_};
 ghost use Rattle.rules.specs.Bounds.{maxBoardSide, maxRadius};
 ghost use Rattle.rules.specs.Tests.{boardSides, offsetFits};

@@ -2,7 +2,7 @@
 // only here. Their sum is taken in 64 bits, where no two of them overflow, so that these functions ask nothing of their input: a
 // neighbour of a place on the wall may lie off it.
 ghost use mathlib.Core.Path.{_≡_};
-ghost use mathlib.Core.Bool.{Bool, _&&_};
+ghost use mathlib.Core.Bool.{_&&_};
 ghost use lib.IntN.{_+ℤ_};
 ghost use Rattle.base.specs.Whole.{clip, withinZ, indexBelow};
 ghost use Rattle.base.specs.Refusal.{refusal, accepted};

@@ -1,6 +1,6 @@
 // A job's steps on its board, each with its answer on a line.
 ghost use mathlib.Core.Path.{_≡_};
-ghost use Prim.Native.Nat.{_+_, _<_, _≤_};
+ghost use Prim.Native.Nat.{_<_, _≤_};
 ghost use lib.ListN.{length, drop};
 ghost use Rattle.base.specs.Refusal.{Gives};
 ghost use Rattle.planes.specs.Planes.{board};
