@@ -37,9 +37,6 @@ at-col r k cols h b =
 pub next-row : (r cols : ℕ) → (r + 1) * cols ≡ r * cols + cols
 next-row r cols = rw (add-one, suc-mul)
 
-pub row-room : {r rows : ℕ} (cols : ℕ) → r < rows → r * cols + cols ≤ rows * cols
-row-room {r} {rows} cols h = let g : (r + 1) * cols ≤ rows * cols = mul-le-mul-right cols (omega arith) in omega (arith, next-row r cols)
-
 low-row : (r k cols : ℕ) → 0 < cols → r * cols ≤ k → r ≤ k / cols
 low-row r k cols p h = le-div-iff-mul-le {x = r} {y = k} p .1 h
 

@@ -43,7 +43,8 @@ has-low x n k l =
     let e : w .0 + 1 + k ≡ n = omega (arith, w .1) in
     subst (λ (m : ℕ). has (x % 2 ^ m) (suc k) ≡ has x (suc k)) e (ap (λ (y : ℕ). eqb y 1) (digit-low x (w .0) k))
 
-weigh : (b : Bool) (m lo : ℕ) → lo + pick b m 0 ≡ pick b 1 0 * m + lo
+-- one digit more, as a multiple of its weight
+pub weigh : (b : Bool) (m lo : ℕ) → lo + pick b m 0 ≡ pick b 1 0 * m + lo
 weigh true m lo = omega arith
 weigh false m lo = omega arith
 

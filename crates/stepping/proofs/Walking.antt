@@ -16,7 +16,7 @@ use borrow.Author.Tests.{eqb-true, eqb-false, ne-eqb}
 use Rattle.base.specs.Tables.{fold}
 use Rattle.base.proofs.Bools.{by-test, never}
 use Rattle.base.specs.Refusal.{refusal, Gives}
-use Rattle.base.proofs.Signs.{nat-is}
+use Rattle.base.proofs.Signs.{counted}
 use Rattle.rules.specs.Board.{Job, Board, layChecks, afterLay, liftChecks, afterLift}
 use Rattle.rules.specs.declared.World.{World}
 use Rattle.rules.specs.declared.LayAnswer.{LayAnswer}
@@ -166,4 +166,4 @@ stepped j b s g e w = record { leaves = g .leaves; writes = writes-as (ap number
 
 -- a number of the input as a coordinate
 pub coordinate : {n : ℕ} → n ≤ maxNumber → toZ w32 n ≡ pos n
-coordinate {n} h = let l : n < 1000001 = omega arith in nat-is l tt .is
+coordinate {n} h = let l : n < 1000001 = omega arith in counted w32 l tt .is

@@ -9,7 +9,8 @@ use mir.Syntax.{w64}
 use Rattle.base.specs.Whole.{clip}
 use Rattle.rules.specs.Places.{spanOf}
 use Rattle.rules.specs.declared.Span.{Span}
-use Rattle.places.proofs.Wide.{Reads, wide, widened, cast-fits, counted, add-fits, sub-fits, added, subbed, addB}
+use Rattle.base.proofs.Signs.{Reads, counted, add-fits, sub-fits, added, subbed, addB}
+use Rattle.places.proofs.Wide.{wide, widened, cast-fits}
 use Rattle.spans.proofs.span_along.Statement.{statement}
 use Rattle.spans.proofs.span_along.Tie as tie
 
