@@ -43,13 +43,6 @@ and-go a b p q = rw p q
 pub and-stop : (a b : Bool) → a ≡ false → false ≡ (a && b)
 and-stop a b p = rw p
 
--- what `if a { true } else { b }` answers
-pub or-go : {r : Bool} (a b : Bool) → a ≡ false → r ≡ b → r ≡ (a || b)
-or-go a b p q = rw p q
-
-pub or-stop : (a b : Bool) → a ≡ true → true ≡ (a || b)
-or-stop a b p = rw p
-
 -- a test `!f(..)` that held, or did not, with what f ensures
 pub fails : {r : Bool} (b : Bool) → r ≡ b → not r ≡ true → b ≡ false
 fails {r} b e t = sym e ∙ not-true r t
@@ -59,9 +52,6 @@ passes {r} b e t = sym e ∙ not-false r t
 
 pub not-is-true : (b : Bool) → b ≡ false → not b ≡ true
 not-is-true b e = rw e
-
-pub not-is-false : (b : Bool) → b ≡ true → not b ≡ false
-not-is-false b e = rw e
 
 -- a test and its equation
 pub by-test : {A : Type 0} (b : Bool) → (b ≡ true → A) → (b ≡ false → A) → A

@@ -85,10 +85,6 @@ module _ (f : ℕ → Bool) where
   pub some-done : {n i : ℕ} {r : Bool} → i ≤ n → n ≤ i → r ≡ some i f → r ≡ some n f
   some-done {n} {i} a b h = let e : i ≡ n = omega arith in h ∙ ap (λ (m : ℕ). some m f) e
 
-  pub tally-none : tally 0 f ≡ 0
-  unfolding tally
-  tally-none = refl
-
   pub tally-more : (n : ℕ) → tally (n + 1) f ≡ tally n f + pick (f n) 1 0
   unfolding tally
   tally-more n = rw add-one

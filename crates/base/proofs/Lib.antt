@@ -4,4 +4,5 @@ pub mod Counted
 pub mod Tabled
 pub mod Swept
 pub mod Chain
+pub mod Answered
 pub mod Signs

@@ -1,9 +1,10 @@
 -- Laws of numbers that planes need: the index law, a cell's row and column, bounds of products, ranges.
 -- Assumes nothing.
-use Prim.Native.Nat.{ℕ, _+_, _*_, _/_, _%_, _<_, _≤_}
+use Prim.Native.Nat.{ℕ, suc, _+_, _*_, _/_, _%_, _<_, _≤_}
 use mathlib.Core.Path.{_≡_}
 use mathlib.Core.Bool.{true}
-use native.Mathlib.Nat.{le-trans, mul-le-mul-right, mul-le-mul-left, div-lt-iff-lt-mul, mod-lt, div-add-mod'}
+use native.Mathlib.Nat.{le-trans, mul-le-mul-right, mul-le-mul-left, div-lt-iff-lt-mul, mod-lt, div-add-mod', suc-mul}
+use native.Mathlib.Omega.{arith}
 use lib.Arith.{digits-lt, digits-div, digits-mod}
 use lib.Dec.{leb, ltb}
 use borrow.Author.Tests.{leb-true, le-leb, ltb-true, ltb-false}
@@ -31,6 +32,10 @@ row-lt k rows cols p h = div-lt-iff-lt-mul {x = k} {y = rows} p .1 h
 
 pub col-lt : (k cols : ℕ) → 0 < cols → k % cols < cols
 col-lt k cols p = mod-lt k p
+
+-- a row ends before a later one begins
+pub rows-apart : {a b : ℕ} (wide : ℕ) → a < b → a * wide + wide ≤ b * wide
+rows-apart {a} {b} wide h = let up : suc a * wide ≤ b * wide = mul-le-mul-right wide h in omega (arith, suc-mul a wide)
 
 pub mul-le : {a b m n : ℕ} → a ≤ m → b ≤ n → a * b ≤ m * n
 mul-le {a} {b} {m} {n} p q = le-trans (mul-le-mul-right b p) (mul-le-mul-left m q)

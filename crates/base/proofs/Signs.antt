@@ -1,19 +1,19 @@
--- Signed arithmetic without a solver: `Reads n z A` says that the 32 bits n stand for the whole number z, and that -A ≤ z < A. Sums and
--- differences add the bounds, and whether the result fits is then a comparison of two literals.
+-- Signed arithmetic without a solver, at any width: `Reads w n z A` says that the bits n of width w stand for the whole number z, and that
+-- -A ≤ z < A. Sums and differences add the bounds, and whether the result fits is then a comparison of two literals.
 -- Assumes nothing.
 use Prim.Native.Nat.{ℕ, zero, suc, _+_, _-_, _^_, _<_, _≤_}
-use mathlib.Core.Path.{_≡_, refl, _∙_}
+use mathlib.Core.Path.{_≡_, refl, _∙_, ap}
 use mathlib.Core.Bool.{Bool, true, false, cond}
 use native.Mathlib.Nat.{lt-of-lt-of-le}
 use native.Mathlib.Omega.{arith}
 use lib.Dec.{T, leb, ltb, leb→le}
 use lib.IntN.{ℤ, pos, negsuc, negℤ, natAbs, subℕ, _+ℤ_, _-ℤ_}
 use lib.Signed.{mag, ltZ, nonNeg}
-use mir.Syntax.{w32}
-use mir.Val.{SFits, toZ, ofZ}
+use mir.Syntax.{Width}
+use mir.Val.{SFits, toZ, ofZ, hbits}
 use mir.Facts.{toZ-ofZ, toZ-pos}
-use borrow.Author.Tests.{le-ltb, leb-true, ltb-true}
-use Rattle.base.specs.Whole.{clip, withinZ, indexBelow}
+use borrow.Author.Tests.{le-ltb, leb-true, ltb-true, eqb-true}
+use Rattle.base.specs.Whole.{clip, eqZ, withinZ, indexBelow}
 use Rattle.base.proofs.Bools.{and-left, and-right, never}
 
 mag-cond : (t : Bool) (p q n : ℕ) → p < n → q < n → mag (cond t (negsuc p) (pos q)) < n
@@ -29,64 +29,55 @@ add-in {A} {B} (pos a) (negsuc b) h k = mag-sub {A = A} {B = B} a (suc b) h k
 add-in {A} {B} (negsuc a) (pos b) h k = let g : mag (subℕ b (suc a)) < B + A = mag-sub {A = B} {B = A} b (suc a) k h in omega arith
 add-in (negsuc a) (negsuc b) h k = omega arith
 
-pub neg-in : {B : ℕ} (y : ℤ) → mag y < B → mag (negℤ y) < B + 1
+neg-in : {B : ℕ} (y : ℤ) → mag y < B → mag (negℤ y) < B + 1
 neg-in (pos zero) k = omega arith
 neg-in (pos (suc n)) k = omega arith
 neg-in (negsuc n) k = omega arith
 
-pub record Reads (n : ℕ) (z : ℤ) (A : ℕ) : Type 0 where
-  pub is : toZ w32 n ≡ z
+pub sub-in : {A B : ℕ} (x y : ℤ) → mag x < A → mag y < B → mag (x -ℤ y) < A + (B + 1)
+sub-in x y h k = add-in x (negℤ y) h (neg-in y k)
+
+pub record Reads (w : Width) (n : ℕ) (z : ℤ) (A : ℕ) : Type 0 where
+  pub is : toZ w n ≡ z
   pub low : mag z < A
 
--- a parameter, a field, or a call's result
-pub given : {z : ℤ} {A : ℕ} → SFits w32 z → mag z < A → Reads (ofZ w32 z) z A
-given f h = record { is = toZ-ofZ f; low = h }
+small : (w : Width) {z : ℤ} {A : ℕ} → mag z < A → T (leb A (2 ^ hbits w)) → SFits w z
+small w {z} {A} h t = record { sfits = lt-of-lt-of-le h (leb→le A (2 ^ hbits w) t) }
 
-pub small : {z : ℤ} {A : ℕ} → mag z < A → T (leb A (2 ^ 31)) → SFits w32 z
-small {z} {A} h t = record { sfits = lt-of-lt-of-le h (leb→le A (2 ^ 31) t) }
+-- a number whose bound is known
+pub given : (w : Width) {z : ℤ} {A : ℕ} → mag z < A → T (leb A (2 ^ hbits w)) → Reads w (ofZ w z) z A
+given w h t = record { is = toZ-ofZ (small w h t); low = h }
 
--- a number whose bound a test showed
-pub tested : {z : ℤ} {A : ℕ} → mag z < A → T (leb A (2 ^ 31)) → Reads (ofZ w32 z) z A
-tested h t = given (small h t) h
-
--- a literal, and an unsigned number after its cast to i32
-pub zero-is : Reads 0 (pos 0) 1
-zero-is = record { is = refl; low = omega arith }
-
-pub one-is : Reads 1 (pos 1) 2
-one-is = record { is = refl; low = omega arith }
-
-pub nat-is : {n A : ℕ} → n < A → T (leb A (2 ^ 31)) → Reads n (pos n) A
-nat-is {n} {A} h t = record { is = toZ-pos w32 (lt-of-lt-of-le h (leb→le A (2 ^ 31) t)); low = h }
+-- a literal, and an unsigned number after its cast
+pub counted : (w : Width) {n A : ℕ} → n < A → T (leb A (2 ^ hbits w)) → Reads w n (pos n) A
+counted w {n} {A} h t = record { is = toZ-pos w (lt-of-lt-of-le h (leb→le A (2 ^ hbits w) t)); low = h }
 
 -- the bits of a sum and of a difference
-abbrev pub addB : ℕ → ℕ → ℕ
-addB n m = ofZ w32 (toZ w32 n +ℤ toZ w32 m)
+abbrev pub addB : Width → ℕ → ℕ → ℕ
+addB w n m = ofZ w (toZ w n +ℤ toZ w m)
 
-abbrev pub subB : ℕ → ℕ → ℕ
-subB n m = ofZ w32 (toZ w32 n -ℤ toZ w32 m)
+abbrev pub subB : Width → ℕ → ℕ → ℕ
+subB w n m = ofZ w (toZ w n -ℤ toZ w m)
 
-module _ {n m : ℕ} {z y : ℤ} {A B : ℕ} (p : Reads n z A) (q : Reads m y B) where
-  add-low : mag (toZ w32 n +ℤ toZ w32 m) < A + B
-  add-low = rw (p .is, q .is) (add-in z y (p .low) (q .low))
+module _ {w : Width} {n m : ℕ} {z y : ℤ} {A B : ℕ} (p : Reads w n z A) (q : Reads w m y B) where
+  pub add-fits : T (leb (A + B) (2 ^ hbits w)) → SFits w (toZ w n +ℤ toZ w m)
+  add-fits t = rw (p .is, q .is) (small w (add-in z y (p .low) (q .low)) t)
 
-  sub-low : mag (toZ w32 n -ℤ toZ w32 m) < A + (B + 1)
-  sub-low = rw (p .is, q .is) (add-in z (negℤ y) (p .low) (neg-in y (q .low)))
+  pub sub-fits : T (leb (A + (B + 1)) (2 ^ hbits w)) → SFits w (toZ w n -ℤ toZ w m)
+  sub-fits t = rw (p .is, q .is) (small w (sub-in z y (p .low) (q .low)) t)
 
-  pub add-fits : T (leb (A + B) (2 ^ 31)) → SFits w32 (toZ w32 n +ℤ toZ w32 m)
-  add-fits t = small add-low t
-
-  pub sub-fits : T (leb (A + (B + 1)) (2 ^ 31)) → SFits w32 (toZ w32 n -ℤ toZ w32 m)
-  sub-fits t = small sub-low t
-
-  pub added : T (leb (A + B) (2 ^ 31)) → Reads (addB n m) (z +ℤ y) (A + B)
+  pub added : T (leb (A + B) (2 ^ hbits w)) → Reads w (addB w n m) (z +ℤ y) (A + B)
   added t = record { is = toZ-ofZ (add-fits t) ∙ rw (p .is, q .is); low = add-in z y (p .low) (q .low) }
 
-  pub subbed : T (leb (A + (B + 1)) (2 ^ 31)) → Reads (subB n m) (z -ℤ y) (A + (B + 1))
-  subbed t = record { is = toZ-ofZ (sub-fits t) ∙ rw (p .is, q .is); low = add-in z (negℤ y) (p .low) (neg-in y (q .low)) }
+  pub subbed : T (leb (A + (B + 1)) (2 ^ hbits w)) → Reads w (subB w n m) (z -ℤ y) (A + (B + 1))
+  subbed t = record { is = toZ-ofZ (sub-fits t) ∙ rw (p .is, q .is); low = sub-in z y (p .low) (q .low) }
 
-pub seen : {n : ℕ} {z : ℤ} {A : ℕ} → Reads n z A → (B : ℕ) → T (leb A B) → mag (toZ w32 n) < B
-seen {n} {z} {A} p B t = rw (p .is) (lt-of-lt-of-le (p .low) (leb→le A B t))
+-- the test of equality
+pub eqZ-true : (x y : ℤ) → eqZ x y ≡ true → x ≡ y
+eqZ-true (pos a) (pos b) e = ap pos (eqb-true a b e)
+eqZ-true (pos a) (negsuc b) e = never false e refl
+eqZ-true (negsuc a) (pos b) e = never false e refl
+eqZ-true (negsuc a) (negsuc b) e = ap negsuc (eqb-true a b e)
 
 -- what the test `z < 0` leaves of `clip`
 pub not-below : (z : ℤ) → ltZ z (pos 0) ≡ false → T (nonNeg z)

@@ -1,3 +1,2 @@
 pub mod Chains
-pub mod Answers
 pub mod Coincide

@@ -1,6 +1,5 @@
 // Lay and lift on a board, three lent planes, pieces, weights and counts. A refused call changes none of them. Places are wall
 // coordinates; the offset leads to the cell.
-ghost use mathlib.Core.Path.{_≡_};
 ghost use Rattle.base.specs.Refusal.{Gives};
 ghost use Rattle.rules.specs.Board.{laying, afterLay, lifting, afterLift};
 ghost use Rattle.planes.specs.Planes.{board, job};

@@ -12,9 +12,9 @@ use Rattle.base.specs.Counting.{within}
 use Rattle.base.proofs.Bools.{and-left, and-right}
 use Rattle.base.proofs.Numbers.{within-low, within-high, mul-le}
 use Rattle.base.proofs.Counted.{every-at}
-use Rattle.rules.specs.Tests.{boardSides, sampleSides, hasLength, tilesIn, tileNumber, wholeTiles, colourCount, noneAbove, piecesStored, entryUpTo, pieceStored}
+use Rattle.rules.specs.Tests.{boardSides, hasLength, tilesIn, tileNumber, wholeTiles, colourCount, noneAbove, piecesStored, entryUpTo, pieceStored}
 
--- the sides of a board are 1 to 64, those of a sample 1 to 32
+-- the sides of a board are 1 to 64
 pub board-rows : (rows cols : ℕ) → boardSides rows cols ≡ true → (1 ≤ rows) × (rows ≤ 64)
 unfolding boardSides
 board-rows rows cols e = let h = and-left (within 1 64 rows) (within 1 64 cols) e in (within-low 1 64 rows h, within-high 1 64 rows h)
@@ -22,14 +22,6 @@ board-rows rows cols e = let h = and-left (within 1 64 rows) (within 1 64 cols) 
 pub board-cols : (rows cols : ℕ) → boardSides rows cols ≡ true → (1 ≤ cols) × (cols ≤ 64)
 unfolding boardSides
 board-cols rows cols e = let h = and-right (within 1 64 rows) (within 1 64 cols) e in (within-low 1 64 cols h, within-high 1 64 cols h)
-
-pub sample-rows : (rows cols : ℕ) → sampleSides rows cols ≡ true → (1 ≤ rows) × (rows ≤ 32)
-unfolding sampleSides
-sample-rows rows cols e = let h = and-left (within 1 32 rows) (within 1 32 cols) e in (within-low 1 32 rows h, within-high 1 32 rows h)
-
-pub sample-cols : (rows cols : ℕ) → sampleSides rows cols ≡ true → (1 ≤ cols) × (cols ≤ 32)
-unfolding sampleSides
-sample-cols rows cols e = let h = and-right (within 1 32 rows) (within 1 32 cols) e in (within-low 1 32 cols h, within-high 1 32 cols h)
 
 -- a board has at most 4,096 cells
 pub few-cells : (rows cols : ℕ) → boardSides rows cols ≡ true → rows * cols ≤ 4096

@@ -1,6 +1,6 @@
 -- From the refusal of a copy, or its absence, to what the call answers and leaves. `more` are the checks that come after the lengths.
 -- Assumes nothing.
-use Prim.Native.Nat.{ℕ, zero, suc}
+use Prim.Native.Nat.{ℕ}
 use mathlib.Core.Path.{_≡_, refl, sym, _∙_, ap}
 use mathlib.Core.List.{List}
 use lib.ListN.{length}
@@ -10,7 +10,8 @@ use Rattle.base.proofs.Chain.{stopped, went-on, numbered, _then_}
 use Rattle.base.proofs.Tabled.{length-tab}
 use Rattle.rules.specs.Tests.{hasLength}
 use Rattle.rules.specs.Answers.{writtenAnswer}
-use Rattle.rules.specs.Places.{newCols, copyChecks, afterCopy}
+use Rattle.rules.specs.Places.{newCols, copied, copyChecks, afterCopy}
+use Rattle.rules.proofs.Answered.{gives-refused}
 use Rattle.rules.specs.declared.Pads.{Pads}
 use Rattle.rules.specs.declared.Written.{Written}
 use Rattle.rules.specs.declared.Written.the-variants.{Done, Refused}
@@ -38,8 +39,7 @@ module _ {A : Type 0} (d fill : A) (plane target : List A) (rows cols : ℕ) (p 
   -- a refusal is answered, and the target is as it was
   refused-is : (n : ℕ) → n ≡ refusal (copyChecks plane rows cols p target more) → (n ≡ 0 → ⊥) → Copies (Refused n) target
   unfolding afterCopy
-  refused-is zero e h = absurd (h refl)
-  refused-is (suc n) e h = rw (← e) (record { answered = refl; leaves = refl })
+  refused-is n e h = gives-refused _ (copied d fill plane rows cols p) target n e h
 
   pub sizes-refused : (n : ℕ) → n ≡ refusal (sizeChecks rows cols p (length plane) (length target)) → (n ≡ 0 → ⊥) → Copies (Refused n) target
   sizes-refused n e h = refused-is n (asked-sizes n e h) h

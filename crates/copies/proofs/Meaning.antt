@@ -1,5 +1,4 @@
--- What the copy holds, cell by cell: it has the sides that the pads make, old cell (i, j) stands at (i + left, j + top), and every other
--- cell holds the fill.
+-- What the copy holds, cell by cell: old cell (i, j) stands at (i + left, j + top), and every other cell holds the fill.
 -- Assumes nothing.
 use Prim.Native.Nat.{ℕ, _+_, _-_, _*_, _/_, _%_, _<_, _≤_}
 use mathlib.Core.Path.{_≡_, _∙_}
@@ -8,19 +7,15 @@ use mathlib.Core.List.{List}
 use mathlib.Core.Logic.{_⊎_, ⊎-elim}
 use native.Mathlib.Omega.{arith}
 use lib.Dec.{leb, ltb}
-use lib.ListN.{length, getD}
+use lib.ListN.{getD}
 use borrow.Author.Tests.{le-leb, lt-leb, lt-ltb, le-ltb}
 use Rattle.base.proofs.Bools.{and-no-left, and-no-right, pick-no}
 use Rattle.base.proofs.Numbers.{cell-lt, row-of, col-of}
-use Rattle.base.proofs.Tabled.{length-tab, getD-tab}
+use Rattle.base.proofs.Tabled.{getD-tab}
 use Rattle.rules.specs.Places.{newRows, newCols, copiedCell, copied}
 use Rattle.rules.specs.declared.Pads.{Pads}
 
 module _ {A : Type 0} (d fill : A) (plane : List A) (rows cols : ℕ) (p : Pads) where
-  pub copied-length : length (copied d fill plane rows cols p) ≡ newRows rows p * newCols cols p
-  unfolding copied
-  copied-length = length-tab (newRows rows p * newCols cols p) (λ k. copiedCell d fill plane rows cols p (k / newCols cols p) (k % newCols cols p))
-
   cell-at : (r c : ℕ) → r < newRows rows p → c < newCols cols p
       → getD (copied d fill plane rows cols p) (r * newCols cols p + c) d ≡ copiedCell d fill plane rows cols p r c
   unfolding copied

@@ -1,12 +1,11 @@
 -- Laws of the copy, over any kind of entry: a row laid entry by entry, the rows laid one by one, and that rows laid in a plane which
 -- holds the fill alone make the copy.
 -- Assumes nothing.
-use Prim.Native.Nat.{ℕ, suc, _+_, _-_, _*_, _/_, _%_, _<_, _≤_}
+use Prim.Native.Nat.{ℕ, _+_, _-_, _*_, _/_, _%_, _<_, _≤_}
 use mathlib.Core.Path.{_≡_, refl, sym, _∙_, ap}
 use mathlib.Core.Bool.{_&&_}
 use mathlib.Core.List.{List}
 use mathlib.Core.Logic.{_⊎_, inl, inr, ⊎-elim}
-use native.Mathlib.Nat.{mul-le-mul-right, suc-mul}
 use native.Mathlib.Omega.{arith}
 use lib.Dec.{leb, ltb}
 use lib.ListN.{length, getD, set}
@@ -14,16 +13,12 @@ use borrow.Author.Tests.{le-leb, lt-leb, lt-ltb, le-ltb}
 use Rattle.base.specs.Counting.{pick}
 use Rattle.base.specs.Tables.{tab}
 use Rattle.base.proofs.Bools.{and-both, and-no-left, and-no-right, pick-yes, pick-no, by-test}
-use Rattle.base.proofs.Numbers.{cell-is, col-lt, lt-or-le}
+use Rattle.base.proofs.Numbers.{cell-is, col-lt, rows-apart, lt-or-le}
 use Rattle.base.proofs.Tabled.{length-tab, getD-tab, tab-ext, is-tab}
 use Rattle.base.proofs.Swept.{swept, swept-none, swept-turn, swept-skip, swept-all}
 use Rattle.rules.specs.Places.{newRows, newCols, copiedCell, copied}
 use Rattle.rules.specs.declared.Pads.{Pads}
 use Rattle.copy_checks.specs.Laid.{overCell, overlaid, laidCell, rowsLaid}
-
--- a row ends before a later one begins
-pub rows-apart : {a b : ℕ} (wide : ℕ) → a < b → a * wide + wide ≤ b * wide
-rows-apart {a} {b} wide h = let up : suc a * wide ≤ b * wide = mul-le-mul-right wide h in omega (arith, suc-mul a wide)
 
 module _ {A : Type 0} (d : A) (plane l : List A) (at from n : ℕ) where
   inside : (k : ℕ) → at ≤ k → k - at < n → overCell d plane at from n l k ≡ getD plane (from + (k - at)) d

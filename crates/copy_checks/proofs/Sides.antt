@@ -10,12 +10,13 @@ use Rattle.base.specs.Counting.{within}
 use Rattle.base.specs.Refusal.{refusal}
 use Rattle.base.proofs.Bools.{and-no-right, and-go, and-stop}
 use Rattle.base.proofs.Chain.{passed}
+use Rattle.base.proofs.Numbers.{rows-apart}
 use Rattle.checks.proofs.Sides.{board-rows, board-cols, few-cells}
 use Rattle.rules.specs.Tests.{boardSides}
 use Rattle.rules.specs.Places.{newRows, newCols}
 use Rattle.rules.specs.declared.Pads.{Pads}
 use Rattle.copy_checks.specs.Laid.{sizeChecks, Sized}
-use Rattle.copy_checks.proofs.Copied.{startOf, rows-apart}
+use Rattle.copy_checks.proofs.Copied.{startOf}
 
 -- what the comparisons of a number with a range leave
 module _ (lo hi n : ℕ) where

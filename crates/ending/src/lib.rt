@@ -1,9 +1,8 @@
 // What stands under the steps' answers: the planes and the scan.
 ghost use mathlib.Core.Path.{_≡_};
-ghost use mathlib.Core.Bool.{Bool, true};
-ghost use mathlib.Core.List.{List, _++_};
-ghost use Prim.Native.Nat.{ℕ, _≤_};
-ghost use lib.ListN.{length};
+ghost use mathlib.Core.Bool.{true};
+ghost use mathlib.Core.List.{_++_};
+ghost use Prim.Native.Nat.{_≤_};
 ghost use Rattle.planes.specs.Planes.{board};
 ghost use Rattle.rules.specs.Bounds.{maxCells};
 ghost use Rattle.rules.specs.Tests.{boardSides};

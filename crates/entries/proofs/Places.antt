@@ -16,7 +16,8 @@ use mir.Val.{SFits, toZ, ofZ}
 use mir.Facts.{toZ-ofZ}
 use borrow.Author.Tests.{eq-eqb, eqb-true, ne-eqb}
 use Rattle.base.specs.Whole.{eqZ}
-use Rattle.base.proofs.Bools.{same-test, never}
+use Rattle.base.proofs.Bools.{same-test}
+use Rattle.base.proofs.Signs.{eqZ-true}
 use Rattle.rules.specs.Places.{samePlace}
 use Rattle.rules.specs.Forced.{isQueued}
 use Rattle.rules.specs.declared.World.{World}
@@ -25,12 +26,6 @@ use Rattle.rules.specs.declared.ForcedPosition.{ForcedPosition}
 eqZ-is : (a b : ℤ) → a ≡ b → eqZ a b ≡ true
 eqZ-is (pos a) b e = subst (λ (z : ℤ). eqZ (pos a) z ≡ true) e (eq-eqb a a refl)
 eqZ-is (negsuc a) b e = subst (λ (z : ℤ). eqZ (negsuc a) z ≡ true) e (eq-eqb a a refl)
-
-eqZ-true : (a b : ℤ) → eqZ a b ≡ true → a ≡ b
-eqZ-true (pos a) (pos b) e = ap pos (eqb-true a b e)
-eqZ-true (pos a) (negsuc b) e = never false e refl
-eqZ-true (negsuc a) (pos b) e = never false e refl
-eqZ-true (negsuc a) (negsuc b) e = ap negsuc (eqb-true a b e)
 
 -- two numbers that fit are equal exactly if their bits are
 module _ {a b : ℤ} (f : SFits w32 a) (g : SFits w32 b) where

@@ -1,9 +1,10 @@
 -- From a refusal to the answer of the call that hands it on, and from its absence to what the checks showed.
 -- Assumes nothing.
-use Prim.Native.Nat.{ℕ, zero, suc}
-use mathlib.Core.Path.{_≡_, refl}
+use Prim.Native.Nat.{ℕ}
+use mathlib.Core.Path.{_≡_, refl, sym}
 use Rattle.base.specs.Refusal.{accepted, refusal}
 use Rattle.base.proofs.Chain.{passed}
+use Rattle.base.proofs.Answered.{refuses, told}
 use Rattle.rules.specs.Tests.{boardSides}
 use Rattle.rules.specs.Answers.{extensionAnswer}
 use Rattle.rules.specs.Places.{spanChecks, extensionChecks}
@@ -15,11 +16,10 @@ use Rattle.places.proofs.Indices.{region}
 use Rattle.extension.specs.Given.{Reached}
 
 pub extension-refused : (n : ℕ) (e : ExtensionInfo) {m : ℕ} → n ≡ m → (n ≡ 0 → ⊥) → Refused n ≡ extensionAnswer m e
-extension-refused zero e p h = absurd (h refl)
-extension-refused (suc n) e p h = rw (← p)
+extension-refused n e {m} p h = refuses extensionAnswer Refused (λ k a. refl) n m e p h
 
 pub extension-given : {e f : ExtensionInfo} {m : ℕ} → m ≡ 0 → e ≡ f → Extension e ≡ extensionAnswer m f
-extension-given p q = rw (p, q)
+extension-given {m = m} p q = told extensionAnswer m (sym p) q
 
 pub reached : (rows cols : ℕ) (o : Offset) (w : World) (k : ℕ) → refusal (extensionChecks rows cols o w k accepted) ≡ 0 → Reached rows cols o w k
 reached rows cols o w k e =

@@ -8,7 +8,7 @@ use lib.Signed.{mag}
 use mir.Syntax.{w32, w64}
 use mir.Val.{SFits}
 use Rattle.base.specs.Whole.{clip}
-use Rattle.base.proofs.Signs.{add-in, clip-low}
+use Rattle.base.proofs.Signs.{add-in, clip-low, Reads, counted, addB, subB, added, subbed, sub-in}
 use Rattle.rules.specs.Bounds.{maxBoardSide, maxRadius}
 use Rattle.rules.specs.Places.{firstOf, lastOf, padBefore, padAfter, boxedBefore, boxedAfter, padsOf, boxedPads}
 use Rattle.rules.specs.declared.World.{World}
@@ -16,7 +16,7 @@ use Rattle.rules.specs.declared.Offset.{Offset}
 use Rattle.rules.specs.declared.BoundingBox.{BoundingBox}
 use Rattle.rules.specs.declared.Pads.{Pads}
 use Rattle.checks.proofs.Sides.{board-rows, board-cols}
-use Rattle.places.proofs.Wide.{Reads, wide, widened, counted, addB, subB, added, subbed, sub-in}
+use Rattle.places.proofs.Wide.{wide, widened}
 use Rattle.places.proofs.Indices.{wall-low, offset-low}
 use Rattle.extension.specs.Given.{Reached, PadsIn, maxPad}
 

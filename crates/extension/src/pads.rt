@@ -1,6 +1,6 @@
 // The pads along one side and along both. A sum of coordinates, offsets, sides and pads is taken in 64 bits, where none overflows.
 ghost use mathlib.Core.Path.{_≡_};
-ghost use mathlib.Core.Bool.{Bool, true};
+ghost use mathlib.Core.Bool.{true};
 ghost use Prim.Native.Nat.{_-_, _≤_};
 ghost use Rattle.rules.specs.Bounds.{maxBoardSide, maxRadius};
 ghost use Rattle.rules.specs.Tests.{boardSides, offsetFits};
@@ -13,7 +13,7 @@ use rules::Pads;
 use rules::World;
 
 // How far coordinate-radius lies before the first cell of a side, else 0.
-fn pad_before(offset: i32, coordinate: i32, radius: usize) -> usize
+fn pad_before(coordinate: i32, offset: i32, radius: usize) -> usize
     requires { ⌜ radius ≤ maxRadius ⌝ }
     ensures { λ r. ⌜ r ≡ padBefore offset coordinate radius ⌝ }
 {
@@ -22,7 +22,7 @@ fn pad_before(offset: i32, coordinate: i32, radius: usize) -> usize
 }
 
 // How far coordinate+radius lies past the last cell of a side, else 0.
-fn pad_after(side: usize, offset: i32, coordinate: i32, radius: usize) -> usize
+fn pad_after(side: usize, coordinate: i32, offset: i32, radius: usize) -> usize
     requires { ⌜ (side ≤ maxBoardSide) × (radius ≤ maxRadius) ⌝ }
     ensures { λ r. ⌜ r ≡ padAfter side offset coordinate radius ⌝ }
 {
@@ -60,10 +60,10 @@ pub fn pads_of(rows: usize, cols: usize, offset: Offset, coordinates: World, rad
     ensures { λ r. ⌜ r ≡ padsOf rows cols offset coordinates radius ⌝ }
 {
     Pads {
-        left: pad_before(offset.0, coordinates.0, radius),
-        right: pad_after(rows, offset.0, coordinates.0, radius),
-        top: pad_before(offset.1, coordinates.1, radius),
-        bottom: pad_after(cols, offset.1, coordinates.1, radius),
+        left: pad_before(coordinates.0, offset.0, radius),
+        right: pad_after(rows, coordinates.0, offset.0, radius),
+        top: pad_before(coordinates.1, offset.1, radius),
+        bottom: pad_after(cols, coordinates.1, offset.1, radius),
     }
 }
 

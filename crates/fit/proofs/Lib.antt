@@ -1,3 +1,2 @@
 pub mod Accepted
-pub mod Calls
 pub mod Coincide

@@ -13,7 +13,7 @@ use lib.ListN.{length, getD, take, drop}
 use borrow.Author.Tests.{lt-leb, le-ltb, le-leb, lt-ltb}
 use Rattle.base.specs.Tables.{tab}
 use Rattle.base.proofs.Bools.{and-both, and-no-left, and-no-right}
-use Rattle.base.proofs.Numbers.{row-of, col-of, row-lt}
+use Rattle.base.proofs.Numbers.{col-of, row-lt}
 use Rattle.rules.specs.Scores.{inSpan}
 use Rattle.rules.specs.declared.Span.{Span}
 use Rattle.floats.specs.Spans.{RegionFits}
@@ -29,11 +29,6 @@ pub inside : (s : Span) (x : ℕ) → s .0 ≤ x → x < s .1 → inSpan s x ≡
 inside s x h k = and-both _ _ (le-leb _ _ h) (lt-ltb _ _ k)
 
 -- a cell of row r
-pub at-row : (r k cols : ℕ) → r * cols ≤ k → k < r * cols + cols → k / cols ≡ r
-at-row r k cols h b =
-    let e : k ≡ r * cols + (k - r * cols) = omega arith in
-    ap (λ (n : ℕ). n / cols) e ∙ row-of r (omega arith)
-
 pub at-col : (r k cols : ℕ) → r * cols ≤ k → k < r * cols + cols → k % cols ≡ k - r * cols
 at-col r k cols h b =
     let e : k ≡ r * cols + (k - r * cols) = omega arith in
@@ -41,9 +36,6 @@ at-col r k cols h b =
 
 pub next-row : (r cols : ℕ) → (r + 1) * cols ≡ r * cols + cols
 next-row r cols = rw (add-one, suc-mul)
-
-pub row-room : {r rows : ℕ} (cols : ℕ) → r < rows → r * cols + cols ≤ rows * cols
-row-room {r} {rows} cols h = let g : (r + 1) * cols ≤ rows * cols = mul-le-mul-right cols (omega arith) in omega (arith, next-row r cols)
 
 low-row : (r k cols : ℕ) → 0 < cols → r * cols ≤ k → r ≤ k / cols
 low-row r k cols p h = le-div-iff-mul-le {x = r} {y = k} p .1 h

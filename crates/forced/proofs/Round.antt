@@ -1,4 +1,4 @@
--- The eight neighbours in the loop's order: those found before a turn, and after it; there are eight at most.
+-- The eight neighbours in the loop's order: those found before a turn, at most one for each turn passed, and after it.
 -- Assumes nothing.
 use Prim.Native.Nat.{ℕ, _+_, _<_, _≤_}
 use mathlib.Core.Path.{_≡_, refl, sym, _∙_, ap}
@@ -7,7 +7,7 @@ use mathlib.Core.List.{List, [], _∷_, _++_, append-nil}
 use native.Mathlib.Omega.{arith}
 use borrow.Author.Tests.{ltb-true}
 use lib.Dec.{ltb, eqb}
-use lib.ListN.{length, getD}
+use lib.ListN.{getD}
 use Rattle.base.specs.Counting.{pick, every}
 use Rattle.base.specs.Tables.{those}
 use Rattle.base.proofs.Counted.{every-at, tally-le}
@@ -70,9 +70,3 @@ module _ (pieces : List ℕ) (rows cols : ℕ) (tiles : List ℕ) (count : ℕ) 
       let e : i ≡ 8 = omega arith in
       rw e
       (skip-centre (λ d. isForced pieces rows cols tiles count (neighbour w d) o b) (λ d. forcedThere pieces rows cols tiles count (neighbour w d) o))
-
-  -- so there are eight at most
-  pub round-few : length (forcedRound pieces rows cols tiles count w o b) ≤ addedRoom
-  unfolding foundBefore
-  round-few =
-      omega (arith, ap length (before-all addedRoom (omega arith) (omega arith)), length-those addedRoom testAt foundAt, tally-le testAt addedRoom)

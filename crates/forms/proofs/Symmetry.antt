@@ -1,5 +1,5 @@
--- Rotation and reflection of tiles of nine: four rotations are the identity, two reflections are, a reflected rotation is three rotations of
--- the reflected, and each of the two is one-to-one. By computation: each form reads nine places of any list.
+-- Rotation and reflection of tiles of nine: four rotations are the identity, two reflections are, a reflected rotation is three rotations
+-- of the reflected, and each of the two is one-to-one. By computation: each form reads nine places of any list.
 -- Assumes nothing.
 use Prim.Native.Nat.{ℕ}
 use mathlib.Core.Path.{_≡_, refl, sym, _∙_, ap}

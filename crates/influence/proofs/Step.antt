@@ -12,11 +12,11 @@ use lib.ListN.{length, getD, take, drop}
 use lib.Ieee.{Float, nan}
 use borrow.Author.Tests.{le-ltb, ltb-true}
 use Rattle.base.proofs.Bools.{and-left, and-right, and-both, and-no-left, and-no-right, pick-no, by-test}
-use Rattle.base.proofs.Numbers.{cell-lt, row-of, col-of}
+use Rattle.base.proofs.Numbers.{cell-lt, row-of, col-of, rows-apart}
 use Rattle.rules.specs.Probabilities.{Region, Block, inRegion, inBlock, influence, productAt, quotientAt}
 use Rattle.rules.specs.declared.Span.{Span}
 use Rattle.floats.proofs.Sweep.{length-part, part-at}
-use Rattle.floats.proofs.Rows.{inside, row-room}
+use Rattle.floats.proofs.Rows.{inside}
 use Rattle.influence.specs.Step.{regionIn, blockOf, changedAt, multipliedBy, dividedBy, changedEntry, blockRow}
 
 pub unchanged : (reverse : Bool) (g : Region) (b : Block) (p : Float) (t r c : ℕ) → inRegion g r c ≡ false → changedAt reverse g b p t r c ≡ p
@@ -36,13 +36,13 @@ module _ (brows bcols : ℕ) (block : List Float) (long : length block ≡ brows
   pub row-ends : (i : ℕ) → blockRow brows bcols i .1 ≤ length block
   row-ends i =
       by-test (ltb i brows)
-      (λ e. let i< : i < brows = ltb-true i brows e in rw e (omega (arith, long, row-room bcols i<)))
+      (λ e. let i< : i < brows = ltb-true i brows e in rw e (omega (arith, long, rows-apart bcols i<)))
       (λ e. rw e (omega arith))
 
   in-row : (i j : ℕ) → ltb i brows ≡ true → ltb j (length (rowFactors brows bcols block i)) ≡ ltb j bcols
   in-row i j e =
       let i< : i < brows = ltb-true i brows e in
-      let n : length (take ((i * bcols + bcols) - i * bcols) (drop (i * bcols) block)) ≡ bcols = length-part block (i * bcols) (i * bcols + bcols) (omega (arith, long, row-room bcols i<)) ∙ omega arith in
+      let n : length (take ((i * bcols + bcols) - i * bcols) (drop (i * bcols) block)) ≡ bcols = length-part block (i * bcols) (i * bcols + bcols) (omega (arith, long, rows-apart bcols i<)) ∙ omega arith in
       rw (e, n)
 
   row-entry : (i j : ℕ) → ltb i brows ≡ true → j < bcols → getD (rowFactors brows bcols block i) j nan ≡ getD block (i * bcols + j) nan

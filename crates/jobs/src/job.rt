@@ -1,8 +1,7 @@
 // The numbers of the listing program's input, in their order.
 ghost use mathlib.Core.Path.{_≡_};
-ghost use mathlib.Core.Bool.{Bool, true};
-ghost use Prim.Native.Nat.{_+_, _*_, _<_, _≤_};
-ghost use lib.Dec.{leb, eqb};
+ghost use mathlib.Core.Bool.{true};
+ghost use Prim.Native.Nat.{_<_, _≤_};
 ghost use lib.ListN.{length, getD, drop};
 ghost use Rattle.base.specs.Counting.{within};
 ghost use Rattle.jobs.specs.Form.{stepEnd, stepsIn, isWhole, sidesUpTo, headFits, sampleCells, tailFits, isFormed, sidesOf, setupOf, formOf};

@@ -1,9 +1,9 @@
 // Numbers and planes as text, written into a lent buffer. Each call takes the place at which it starts and answers the place after what
 // it wrote; what would pass the buffer's end is dropped, and the place stays at the end.
 ghost use mathlib.Core.Path.{_≡_};
-ghost use mathlib.Core.List.{List, [], _∷_};
+ghost use mathlib.Core.List.{[], _∷_};
 ghost use Prim.Native.Nat.{_+_, _-_, _%_, _<_};
-ghost use lib.ListN.{length, getD};
+ghost use lib.ListN.{length};
 ghost use Rattle.lines.specs.Lines.{digits, decimal, numberLine, parting, cellText, planeText};
 ghost use Rattle.lines.specs.Pages.{Writes};
 

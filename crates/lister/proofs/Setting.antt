@@ -1,5 +1,5 @@
--- Laws of the set-up: a sample of sides up to 16 has 1 to 1,568 tiles, so that they fit the store and a fresh board takes them; its cells as
--- bytes are refused exactly as the numbers are, and are the numbers where nothing is refused.
+-- Laws of the set-up: a sample of sides up to 16 has 1 to 1,568 tiles, so that they fit the store and a fresh board takes them; its cells
+-- as bytes are refused exactly as the numbers are, and are the numbers where nothing is refused.
 -- Assumes nothing.
 use Prim.Native.Nat.{ℕ, zero, suc, _+_, _*_, _%_, _<_, _≤_, min}
 use mathlib.Core.Path.{_≡_, refl, sym, _∙_, ap}

@@ -1,5 +1,5 @@
--- No output is cut off: what the program prints for any input has at most 65,536 bytes. A step has three numbers at the least and prints a line;
--- each plane keeps its length through all steps.
+-- No output is cut off: what the program prints for any input has at most 65,536 bytes. A step has three numbers at the least and prints a
+-- line; each plane keeps its length through all steps.
 -- Assumes nothing.
 use Prim.Native.Nat.{ℕ, zero, suc, _+_, _*_, _≤_}
 use mathlib.Core.Path.{_≡_, refl, sym, _∙_, ap}

@@ -1,7 +1,7 @@
 // A job from its set-up on: the sample as bytes, its tiles, a fresh board, the steps.
 ghost use mathlib.Core.Path.{_≡_};
 ghost use mathlib.Core.Bool.{true};
-ghost use Prim.Native.Nat.{ℕ, _+_, _*_, _<_, _≤_, min};
+ghost use Prim.Native.Nat.{_+_, _*_, _≤_, min};
 ghost use lib.ListN.{length, drop};
 ghost use Rattle.rules.specs.Tests.{wholeTiles};
 ghost use Rattle.jobs.specs.Form.{stepsIn, listOf, maxBoard, sidesUpTo};

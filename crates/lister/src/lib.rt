@@ -1,7 +1,6 @@
 // The listing program's work: the bytes that it prints for the bytes that it reads. The program itself only reads, calls and writes.
 mod job;
 
-ghost use mathlib.Core.Path.{_≡_};
 ghost use Rattle.io.specs.Counts.{Counts};
 ghost use Rattle.lines.specs.Pages.{Writes};
 ghost use Rattle.lister.specs.Printed.{badLine, numbersText, printed};

@@ -1,5 +1,4 @@
 // Answers that cross to another language with 64-bit numbers or a float: how many, a cell, spans, a fraction; as `boundary` says.
-ghost use mathlib.Core.Path.{_≡_};
 ghost use Rattle.base.specs.Refusal.{Gives};
 ghost use Rattle.boundary.specs.Boundary.{countNumber, countLeft, fractionNumber, fractionLeft, spanNumber, spanLeft, tilesNumber, tilesLeft, deadEndNumber, deadEndLeft};
 use rules::DeadEnd;

@@ -1,16 +1,12 @@
 -- The set of a tile's colours, gathered cell by cell. Assumes nothing.
 use Prim.Native.Nat.{ℕ, _+_, _^_, _<_, _≤_}
 use mathlib.Core.Path.{_≡_, sym, _∙_, ap}
-use mathlib.Core.Bool.{Bool, true, false, _||_}
+use mathlib.Core.Bool.{Bool, false, _||_}
 use mathlib.Core.List.{List}
-use borrow.Author.Tests.{leb-true}
 use lib.Dec.{eqb}
-use lib.ListN.{length, getD}
+use lib.ListN.{getD}
 use Rattle.base.specs.Counting.{some}
-use Rattle.base.proofs.Counted.{every-at, some-none, some-more}
-use Rattle.rules.specs.Bounds.{maxColours}
-use Rattle.rules.specs.Tests.{colourCount, entryUpTo, noneAbove}
-use Rattle.base.proofs.Numbers.{within-high}
+use Rattle.base.proofs.Counted.{some-none, some-more}
 use Rattle.rules.specs.Sets.{has, bitsOf}
 use Rattle.sets.proofs.Digits.{bits-lt, bits-ext, bits-has, none-is}
 
@@ -29,12 +25,3 @@ to-turn tile count k bits r e h w =
     (λ u a b. ap (λ (x : ℕ). has x u || eqb u (getD tile k 0)) e
     ∙ ap (λ (x : Bool). x || eqb u (getD tile k 0)) (bits-has count (λ t. some k (λ j. eqb t (getD tile j 0))) u a b)
     ∙ sym (some-more (λ j. eqb u (getD tile j 0)) k))
-
--- a cell of a plane none of which is above the count
-pub cell-le : (plane : List ℕ) (count k : ℕ) → noneAbove plane count ≡ true → k < length plane → getD plane k 0 ≤ count
-unfolding noneAbove
-cell-le plane count k e h = leb-true (getD plane k 0) count (every-at (entryUpTo plane count) (length plane) e k h)
-
-pub count-few : (count : ℕ) → colourCount count ≡ true → count ≤ maxColours
-unfolding colourCount
-count-few count e = within-high 1 maxColours count e

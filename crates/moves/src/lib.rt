@@ -1,6 +1,6 @@
 // Lay and lift by the rule alone, their checks made: the piece, then the weights, then the counts.
 ghost use mathlib.Core.Path.{_≡_};
-ghost use Prim.Native.Nat.{ℕ, _≤_};
+ghost use Prim.Native.Nat.{_≤_};
 ghost use Rattle.rules.specs.Bounds.{maxColours};
 ghost use Rattle.rules.specs.Grid.{flat};
 ghost use Rattle.rules.specs.Board.{laid, lifted};

@@ -1,7 +1,7 @@
 // The 3x3 pattern of a window, and the test whether a tile fits it. A pattern is nine bytes, row by row: the colour laid at each place, 0
 // where it is bare or past the edge. The tiles are many and are tried one after the other, so the test reads eight cells at once.
 ghost use mathlib.Core.Path.{_≡_};
-ghost use Prim.Native.Nat.{_+_, _*_, _<_, _≤_};
+ghost use Prim.Native.Nat.{_+_, _*_, _≤_};
 ghost use lib.Dec.{eqb};
 ghost use lib.ListN.{length, getD};
 ghost use Rattle.base.specs.Counting.{every};

@@ -3,7 +3,7 @@
 use Prim.Native.Nat.{ℕ}
 use mathlib.Core.Path.{_≡_}
 use mathlib.Core.Bool.{Bool}
-use lib.IntN.{ℤ}
+use lib.IntN.{ℤ, _+ℤ_}
 use Rattle.base.specs.Whole.{clip, withinZ}
 use Rattle.base.specs.Refusal.{accepted, refusal}
 use Rattle.base.proofs.Chain.{coincide}
@@ -28,6 +28,9 @@ on-board rows cols w o p q = coincide p q
 
 pub clip-to : (z : ℤ) {r s : ℕ} → r ≡ clip z → s ≡ clip z → r ≡ s
 clip-to z p q = coincide p q
+
+pub signed-index : (coordinate offset : ℤ) {r s : ℤ} → r ≡ coordinate +ℤ offset → s ≡ coordinate +ℤ offset → r ≡ s
+signed-index coordinate offset p q = coincide p q
 
 pub cell-of : (w : World) (o : Offset) {r s : Cell} → r ≡ cellOf w o → s ≡ cellOf w o → r ≡ s
 cell-of w o p q = coincide p q

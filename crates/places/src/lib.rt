@@ -2,7 +2,7 @@
 // only here. Their sum is taken in 64 bits, where no two of them overflow, so that these functions ask nothing of their input: a
 // neighbour of a place on the wall may lie off it.
 ghost use mathlib.Core.Path.{_≡_};
-ghost use mathlib.Core.Bool.{Bool, _&&_};
+ghost use mathlib.Core.Bool.{_&&_};
 ghost use lib.IntN.{_+ℤ_};
 ghost use Rattle.base.specs.Whole.{clip, withinZ, indexBelow};
 ghost use Rattle.base.specs.Refusal.{refusal, accepted};
@@ -54,17 +54,24 @@ fn index_below(n: usize, z: i64) -> bool
     if z < 0 { false } else { (z as usize) < n }
 }
 
-// Index = coordinate + offset, along one side; 0 stands for one that would be negative.
+// Index = coordinate + offset, along one side. It may lie off the board.
+pub fn signed_index(coordinate: i32, offset: i32) -> i64
+    ensures { λ r. ⌜ r ≡ coordinate +ℤ offset ⌝ }
+{
+    coordinate as i64 + offset as i64
+}
+
+// The index along one side; 0 stands for one that would be negative.
 fn index_along(coordinate: i32, offset: i32) -> usize
     ensures { λ r. ⌜ r ≡ clip (coordinate +ℤ offset) ⌝ }
 {
-    clip_to(coordinate as i64 + offset as i64)
+    clip_to(signed_index(coordinate, offset))
 }
 
 fn on_side(side: usize, coordinate: i32, offset: i32) -> bool
     ensures { λ r. ⌜ r ≡ indexBelow side (coordinate +ℤ offset) ⌝ }
 {
-    index_below(side, coordinate as i64 + offset as i64)
+    index_below(side, signed_index(coordinate, offset))
 }
 
 pub fn on_board(rows: usize, cols: usize, w: World, o: Offset) -> bool

@@ -1,7 +1,7 @@
 // The three planes of a board, pieces, weights and counts: the checks that fresh, lay and lift share, and fresh, which document 01 adds. A
 // refused call changes none of them.
 ghost use mathlib.Core.Path.{_≡_};
-ghost use Prim.Native.Nat.{ℕ, _+_, _*_, _≤_, _<_};
+ghost use Prim.Native.Nat.{_≤_, _<_};
 ghost use lib.ListN.{length};
 ghost use Rattle.base.specs.Tables.{tab};
 ghost use Rattle.base.specs.Refusal.{Gives, refusal};

@@ -9,7 +9,9 @@ use lib.Dec.{eqb}
 use borrow.Author.Tests.{leb-true}
 use Rattle.base.specs.Refusal.{accepted, refusal}
 use Rattle.base.proofs.Chain.{passed, _then_, stopped, then-go, numbered}
+use Rattle.base.proofs.Answered.{refuses, told}
 use Rattle.rules.specs.Bounds.{queueRoom, addedRoom}
+use Rattle.rules.specs.Answers.{verdictAnswer, numberAnswer}
 use Rattle.rules.specs.Forced.{queued, offered, withPositions, queueChecks, entryChecks, roomChecks, addChecks, takenFrom, grownBy, queueEmpty, queueLength}
 use Rattle.rules.specs.declared.ForcedPosition.{ForcedPosition}
 use Rattle.rules.specs.declared.ForcedPositions.{ForcedPositions}
@@ -39,21 +41,19 @@ module _ (q : ForcedPipeline) where
 
   pub empty-refused : (n : ℕ) → n ≡ refusal (queueChecks q) → (n ≡ 0 → ⊥) → Verdict·.Refused n ≡ queueEmpty q
   unfolding queueEmpty
-  empty-refused zero e h = absurd (h refl)
-  empty-refused (suc n) e h = rw (sym e)
+  empty-refused n e h = refuses verdictAnswer Verdict·.Refused (λ m a. refl) n _ (eqb (q .len) 0) e h
 
   pub emptiness : {n : ℕ} → n ≡ refusal (queueChecks q) → n ≡ 0 → Verdict·.Is (eqb (q .len) 0) ≡ queueEmpty q
   unfolding queueEmpty
-  emptiness e z = rw (sym e ∙ z)
+  emptiness e z = told verdictAnswer _ (sym z ∙ e) refl
 
   pub length-refused : (n : ℕ) → n ≡ refusal (queueChecks q) → (n ≡ 0 → ⊥) → Number·.Refused n ≡ queueLength q
   unfolding queueLength
-  length-refused zero e h = absurd (h refl)
-  length-refused (suc n) e h = rw (sym e)
+  length-refused n e h = refuses numberAnswer Number·.Refused (λ m a. refl) n _ (q .len) e h
 
   pub length-is : {n : ℕ} → n ≡ refusal (queueChecks q) → n ≡ 0 → Number·.Is (q .len) ≡ queueLength q
   unfolding queueLength
-  length-is e z = rw (sym e ∙ z)
+  length-is e z = told numberAnswer _ (sym z ∙ e) refl
 
 -- adding: the checks made on entry, and then ROOM
 module _ (q : ForcedPipeline) (p : ForcedPositions) where

@@ -4,23 +4,24 @@
 use Prim.Native.Nat.{ℕ, zero, suc, _+_, _*_, _/_, _%_, _<_, _≤_}
 use mathlib.Core.Path.{_≡_, refl, _∙_, ap, subst}
 use mathlib.Core.Bool.{Bool, true, false, not, _&&_}
-use mathlib.Core.List.{List, [], _∷_}
+use mathlib.Core.List.{List, []}
 use mathlib.Core.Logic.{_⊎_, ⊎-elim}
-use native.Mathlib.Nat.{add-mul, one-mul, mul-zero, mul-le-mul-right}
+use native.Mathlib.Nat.{mul-zero}
 use native.Mathlib.Omega.{arith}
 use borrow.Author.Tests.{lt-ltb, ltb-true, ltb-false, le-ltb, eqb-true, not-true}
 use lib.Dec.{ltb}
-use lib.ListN.{length, getD}
+use lib.ListN.{getD}
 use Rattle.base.specs.Counting.{first}
 use Rattle.base.specs.Refusal.{refusal}
 use Rattle.base.proofs.Bools.{never, and-left, and-right}
-use Rattle.base.proofs.Numbers.{cell-is, cell-lt, row-lt, col-lt}
+use Rattle.base.proofs.Numbers.{cell-is, cell-lt, row-lt, col-lt, rows-apart}
 use Rattle.base.proofs.Counted.{first-holds, first-before}
 use Rattle.rules.specs.Answers.{deadEndAnswer}
 use Rattle.rules.specs.Grid.{flat}
 use Rattle.rules.specs.Forced.{listedAt, deadAt, scanChecks, deadEnd}
 use Rattle.rules.specs.declared.Cell.{Cell}
 use Rattle.rules.specs.declared.DeadEnd.the-variants.{At, Nowhere}
+use Rattle.sets.proofs.Colours.{length-zero}
 use Rattle.pattern.specs.Ready.{OnGrid}
 
 -- a cell before another, row by row
@@ -30,7 +31,7 @@ Before i j r c = (i < r) ⊎ ((i ≡ r) × (j < c))
 before-lt : (i j r c cols : ℕ) → j < cols → Before i j r c → i * cols + j < r * cols + c
 before-lt i j r c cols l b =
     ⊎-elim
-    (λ (h : i < r). let m : (i + 1) * cols ≤ r * cols = mul-le-mul-right cols (omega arith) in omega (arith, add-mul i 1 cols, one-mul cols))
+    (λ (h : i < r). omega (arith, rows-apart cols h))
     (λ (h : (i ≡ r) × (j < c)). let m : i * cols ≡ r * cols = ap (λ (x : ℕ). x * cols) (h .0) in omega (arith, h .1))
     b
 
@@ -49,10 +50,6 @@ nowhere-of zero true c e = absurd (let z : _≡_ {A = ℕ} 0 1 = cc in omega ari
 nowhere-of zero false c e = refl
 nowhere-of (suc n) b c e = absurd (let z : _≡_ {A = ℕ} 0 1 = cc in omega arith)
 
-no-colours : (l : List ℕ) → length l ≡ 0 → l ≡ []
-no-colours [] e = refl
-no-colours (t ∷ l) e = absurd (omega arith)
-
 module _ (pieces weights : List ℕ) (rows cols : ℕ) (tiles : List ℕ) (count : ℕ) where
   pub record Qualifies (r c : ℕ) : Type 0 where
     pub bare : getD pieces (r * cols + c) 0 ≤ 1
@@ -67,7 +64,7 @@ module _ (pieces weights : List ℕ) (rows cols : ℕ) (tiles : List ℕ) (count
       record {
         bare = ltb-false 1 (getD pieces k 0) (not-true _ (and-left (not (ltb 1 (getD pieces k 0))) _ both));
         heavy = ltb-true 1 (getD weights k 0) (and-right (not (ltb 1 (getD pieces k 0))) _ both);
-        unlisted = no-colours _ (eqb-true _ 0 (and-right (not (ltb 1 (getD pieces k 0)) && ltb 1 (getD weights k 0)) _ e));
+        unlisted = length-zero _ (eqb-true _ 0 (and-right (not (ltb 1 (getD pieces k 0)) && ltb 1 (getD weights k 0)) _ e));
       }
 
   qualified : (r c : ℕ) → Qualifies r c → deadAt (flat rows cols) tiles pieces weights count (r * cols + c) ≡ true

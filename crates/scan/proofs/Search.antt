@@ -2,10 +2,9 @@
 --     found-at, found-none    the first cell that qualifies, and that there is none
 --     no-row, row-start, cell-done, row-done, rows-done    the cells that the loops passed
 --     dead-laid, dead-light, dead-listed    whether a cell qualifies
---     refused-is    a refusal
 -- Assumes nothing.
-use Prim.Native.Nat.{ℕ, zero, suc, _+_, _*_, _<_, _≤_}
-use mathlib.Core.Path.{_≡_, refl, sym, _∙_, ap}
+use Prim.Native.Nat.{ℕ, _+_, _*_, _<_, _≤_}
+use mathlib.Core.Path.{_≡_, sym, _∙_, ap}
 use mathlib.Core.Bool.{Bool, true, false, not}
 use mathlib.Core.List.{List}
 use native.Mathlib.Nat.{add-mul, one-mul, zero-mul}
@@ -17,11 +16,9 @@ use Rattle.base.specs.Counting.{some, first}
 use Rattle.base.proofs.Bools.{never, by-test, and-no-left, and-no-right}
 use Rattle.base.proofs.Numbers.{row-of, col-of}
 use Rattle.base.proofs.Counted.{some-none, some-is, some-next, first-is, first-none}
-use Rattle.rules.specs.Answers.{deadEndAnswer}
 use Rattle.rules.specs.Grid.{Shape}
 use Rattle.rules.specs.Forced.{listedAt, deadAt}
-use Rattle.rules.specs.declared.Cell.{Cell}
-use Rattle.rules.specs.declared.DeadEnd.the-variants.{At, Nowhere, Refused}
+use Rattle.rules.specs.declared.DeadEnd.the-variants.{At, Nowhere}
 use Rattle.scan.specs.Scanned.{foundBy}
 
 none-of : (test : ℕ → Bool) (n : ℕ) → some n test ≡ false → (k : ℕ) → k < n → test k ≡ false
@@ -76,7 +73,3 @@ module _ (g : Shape) (tiles pieces weights : List ℕ) (count k : ℕ) where
       → r ≡ deadAt g tiles pieces weights count k
   unfolding deadAt
   dead-listed p w e = rw (le-ltb 1 (getD pieces k 0) p, lt-ltb 1 (getD weights k 0) w) e
-
-pub refused-is : (n r : ℕ) (found : Bool) (cell : Cell) → n ≡ r → (n ≡ 0 → ⊥) → Refused n ≡ deadEndAnswer r found cell
-refused-is zero r found cell e h = absurd (h refl)
-refused-is (suc n) r found cell e h = ap (λ (m : ℕ). deadEndAnswer m found cell) e

@@ -1,5 +1,6 @@
-// Whether a tile is among those kept: the text's sorted set `seen`, as buckets of chained tiles over the caller's list. `heads` has for each
-// bucket one more than the number of its last tile, `nexts` for each tile one more than that of the last before it in its bucket; 0: none.
+// Whether a tile is among those kept: the text's sorted set `seen`, as buckets of chained tiles over the caller's list. `heads` has for
+// each bucket one more than the number of its last tile, `nexts` for each tile one more than that of the last before it in its bucket; 0:
+// none.
 ghost use mathlib.Core.Path.{_≡_};
 ghost use Prim.Native.Nat.{_+_, _<_};
 ghost use lib.ListN.{getD, set};

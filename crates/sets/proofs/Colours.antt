@@ -28,7 +28,7 @@ use Rattle.rules.specs.Sets.{has, bitsOf, coloursOf, colourList}
 use Rattle.rules.specs.Bounds.{maxColours}
 use Rattle.rules.specs.declared.ColourList.{ColourList}
 use Rattle.rules.specs.Forced.{only}
-use Rattle.sets.proofs.Digits.{bits-lt, bits-has, bits-back}
+use Rattle.sets.proofs.Digits.{bits-lt, bits-has, bits-back, weigh}
 
 -- one colour more, as a loop counts
 pub colours-none : (f : ℕ → Bool) → coloursOf 0 f ≡ []
@@ -60,10 +60,6 @@ ones-pick : (b : Bool) → ones (pick b 1 0) ≡ pick b 1 0
 ones-pick true = ones-ones 1
 ones-pick false = ones-ones 0
 
-weigh : (b : Bool) (m lo : ℕ) → lo + pick b m 0 ≡ pick b 1 0 * m + lo
-weigh true m lo = omega arith
-weigh false m lo = omega arith
-
 ones-tally : (n : ℕ) (f : ℕ → Bool) → ones (bitsOf n f) ≡ tally n (λ k. f (k + 1))
 unfolding bitsOf tally
 ones-tally zero f = ones-ones 0
@@ -94,7 +90,7 @@ colours-empty n x l =
     (λ t. eq-eqb x 0 (sym (bits-back n x l) ∙ tally-zero n (has x) (sym (colours-tally n (has x)) ∙ eqb-true (length (coloursOf n (has x))) 0 t)))
 
 -- one colour: its bit
-length-zero : (l : List ℕ) → length l ≡ 0 → l ≡ []
+pub length-zero : (l : List ℕ) → length l ≡ 0 → l ≡ []
 length-zero [] e = refl
 length-zero (t ∷ l) e = absurd (out e)
   where

@@ -3,7 +3,6 @@
 --     bits-ext      two tests that agree on 1 to n give one set
 --     bits-has      which colours are in it; past n there are none
 --     bits-back     a number below 2 ^ n is the set of what it has
---     same-set      two sets with the same colours are equal
 --     none-is, all-is, one-is   the set of none, of all, of one
 -- Assumes nothing.
 use Prim.Native.Nat.{ℕ, zero, suc, _+_, _-_, _*_, _/_, _%_, _^_, _≤_, _<_, zero-le, suc-le-suc}
@@ -44,7 +43,8 @@ has-low x n k l =
     let e : w .0 + 1 + k ≡ n = omega (arith, w .1) in
     subst (λ (m : ℕ). has (x % 2 ^ m) (suc k) ≡ has x (suc k)) e (ap (λ (y : ℕ). eqb y 1) (digit-low x (w .0) k))
 
-weigh : (b : Bool) (m lo : ℕ) → lo + pick b m 0 ≡ pick b 1 0 * m + lo
+-- one digit more, as a multiple of its weight
+pub weigh : (b : Bool) (m lo : ℕ) → lo + pick b m 0 ≡ pick b 1 0 * m + lo
 weigh true m lo = omega arith
 weigh false m lo = omega arith
 
@@ -101,9 +101,6 @@ bits-back (suc n) x l =
 -- a set whose colours are those of which f holds
 pub set-is : (n x : ℕ) (f : ℕ → Bool) → x < 2 ^ n → ((t : ℕ) → 1 ≤ t → t ≤ n → has x t ≡ f t) → x ≡ bitsOf n f
 set-is n x f l h = sym (bits-back n x l) ∙ bits-ext n (has x) f h
-
-pub same-set : (n x y : ℕ) → x < 2 ^ n → y < 2 ^ n → ((t : ℕ) → 1 ≤ t → t ≤ n → has x t ≡ has y t) → x ≡ y
-same-set n x y l m h = set-is n x (has y) l h ∙ bits-back n y m
 
 pub none-is : (n : ℕ) → 0 ≡ bitsOf n (λ t. false)
 unfolding bitsOf

@@ -8,6 +8,7 @@ ghost use Rattle.rules.specs.Places.{spanOf, spanChecks, regionSpans};
 use places::clip_to;
 use places::offset_fits;
 use places::on_wall;
+use places::signed_index;
 use rules::Offset;
 use rules::Span;
 use rules::SpanAnswer;
@@ -18,7 +19,7 @@ fn span_along(coordinate: i32, offset: i32, radius: usize) -> Span
     requires { ⌜ radius ≤ maxRadius ⌝ }
     ensures { λ r. ⌜ r ≡ spanOf (coordinate +ℤ offset) radius ⌝ }
 {
-    let index = coordinate as i64 + offset as i64;
+    let index = signed_index(coordinate, offset);
     let reach = radius as i64;
     Span(clip_to(index - reach), clip_to(index + reach + 1))
 }

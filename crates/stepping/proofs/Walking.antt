@@ -16,7 +16,7 @@ use borrow.Author.Tests.{eqb-true, eqb-false, ne-eqb}
 use Rattle.base.specs.Tables.{fold}
 use Rattle.base.proofs.Bools.{by-test, never}
 use Rattle.base.specs.Refusal.{refusal, Gives}
-use Rattle.base.proofs.Signs.{nat-is}
+use Rattle.base.proofs.Signs.{counted}
 use Rattle.rules.specs.Board.{Job, Board, layChecks, laying, afterLay, liftChecks, lifting, afterLift}
 use Rattle.rules.specs.declared.World.{World}
 use Rattle.rules.specs.declared.LayAnswer.{LayAnswer}
@@ -160,10 +160,10 @@ took-lift {w = w} j b s row col e p g q =
       leaves = g .leaves ∙ ap (λ (v : World). afterLift j b v) p;
     })
 
-pub stepped : {m n at r : ℕ} {x y : List ℕ} {c : Board} (j : Job) (b : Board) (s : Step) → Gives (answerTo j b s) (boardAfter j b s) n c → m ≡ n
-    → Writes (numberLine m) at x r y → Stepped j b s at x r c y
-stepped j b s g e w = record { leaves = g .leaves; writes = writes-as (ap numberLine (e ∙ g .answered)) w }
+pub stepped : {n at r : ℕ} {x y : List ℕ} {c : Board} (j : Job) (b : Board) (s : Step) → Gives (answerTo j b s) (boardAfter j b s) n c
+    → Writes (numberLine n) at x r y → Stepped j b s at x r c y
+stepped j b s g w = record { leaves = g .leaves; writes = writes-as (ap numberLine (g .answered)) w }
 
 -- a number of the input as a coordinate
 pub coordinate : {n : ℕ} → n ≤ maxNumber → toZ w32 n ≡ pos n
-coordinate {n} h = let l : n < 1000001 = omega arith in nat-is l tt .is
+coordinate {n} h = let l : n < 1000001 = omega arith in counted w32 l tt .is

@@ -1,38 +1,17 @@
 // A job's steps on its board, each with its answer on a line.
 ghost use mathlib.Core.Path.{_≡_};
-ghost use Prim.Native.Nat.{_+_, _<_, _≤_};
+ghost use Prim.Native.Nat.{_<_, _≤_};
 ghost use lib.ListN.{length, drop};
 ghost use Rattle.base.specs.Refusal.{Gives};
 ghost use Rattle.planes.specs.Planes.{board};
 ghost use Rattle.jobs.specs.Form.{stepsIn, listOf};
 ghost use Rattle.words.specs.Input.{maxNumber};
 ghost use Rattle.stepping.specs.Steps.{placeAt, answerTo, boardAfter};
-ghost use Rattle.boundary.specs.Boundary.{layNumber, liftNumber};
 ghost use Rattle.ending.specs.Ending.{jobWith};
 ghost use Rattle.stepping.specs.Walks.{Walks, stepAt, Stepped, Ran};
 use jobs::Setup;
-use rules::LayAnswer;
-use rules::LiftAnswer;
 use rules::Offset;
 use rules::World;
-
-fn lay_number(a: LayAnswer) -> u8
-    ensures { λ r. ⌜ r ≡ layNumber a ⌝ }
-{
-    match a {
-        LayAnswer::Laid => 0,
-        LayAnswer::Refused(n) => n,
-    }
-}
-
-fn lift_number(a: LiftAnswer) -> u8
-    ensures { λ r. ⌜ r ≡ liftNumber a ⌝ }
-{
-    match a {
-        LiftAnswer::Lifted => 0,
-        LiftAnswer::Refused(n) => n,
-    }
-}
 
 fn place(row: u32, col: u32) -> World
     requires { ⌜ (row ≤ maxNumber) × (col ≤ maxNumber) ⌝ }
@@ -50,7 +29,7 @@ fn take_step(
     setup: Setup,
     numbers: &[u32],
     p: usize,
-) -> u8
+) -> u32
     requires { ⌜ (Walks (now numbers) p) × (p < length (now numbers)) ⌝ }
     ensures { λ r. ⌜ Gives (answerTo (jobWith setup (now (tiles .entry))) (board (now (pieces .entry)) (now (weights .entry)) (now (counts .entry))) (stepAt (now (numbers .entry)) p)) (boardAfter (jobWith setup (now (tiles .entry))) (board (now (pieces .entry)) (now (weights .entry)) (now (counts .entry))) (stepAt (now (numbers .entry)) p)) r (board (now (pieces .exit)) (now (weights .exit)) (now (counts .exit))) ⌝ }
 {
@@ -60,7 +39,7 @@ fn take_step(
     let offset = Offset(0, 0);
     if numbers[p] == 1 {
         let colour = numbers[p + 3];
-        return lay_number(board::lay(
+        return boundary::laid(board::lay(
             pieces,
             weights,
             counts,
@@ -73,7 +52,7 @@ fn take_step(
             colour,
         ));
     }
-    lift_number(board::lift(
+    boundary::lifted(board::lift(
         pieces,
         weights,
         counts,
@@ -84,12 +63,6 @@ fn take_step(
         there,
         offset,
     ))
-}
-
-fn wide(n: u8) -> u32
-    ensures { λ r. ⌜ r ≡ n ⌝ }
-{
-    n as u32
 }
 
 fn step(
@@ -107,7 +80,7 @@ fn step(
     ensures { λ r. ⌜ Stepped (jobWith setup (now (tiles .entry))) (board (now (pieces .entry)) (now (weights .entry)) (now (counts .entry))) (stepAt (now (numbers .entry)) p) at (now (out .entry)) r (board (now (pieces .exit)) (now (weights .exit)) (now (counts .exit))) (now (out .exit)) ⌝ }
 {
     let no = take_step(pieces, weights, counts, tiles, setup, numbers, p);
-    lines::put_number_line(out, at, wide(no))
+    lines::put_number_line(out, at, no)
 }
 
 // All steps from the given number on.

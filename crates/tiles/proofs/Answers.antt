@@ -3,20 +3,19 @@ use Prim.Native.Nat.{ℕ, _*_, _≤_}
 use mathlib.Core.Path.{_≡_, refl, sym, _∙_, ap}
 use mathlib.Core.Bool.{Bool, true}
 use mathlib.Core.List.{List}
-use borrow.Author.Tests.{eqb-true}
-use lib.ListN.{length}
 use Rattle.base.specs.Counting.{within}
 use Rattle.base.specs.Refusal.{Checks, accepted, refusal, Gives}
 use Rattle.base.proofs.Bools.{and-left, and-right}
 use Rattle.base.proofs.Numbers.{within-high}
 use Rattle.base.proofs.Chain.{_then_, numbered, passed, then-go, stopped, kept-old, has-new}
+use Rattle.base.proofs.Answered.{refuses}
 use Rattle.rules.specs.Bounds.{maxSampleSide}
 use Rattle.rules.specs.Tests.{sampleSides, hasLength, tilesIn}
 use Rattle.rules.specs.Answers.{tileAnswer}
 use Rattle.rules.specs.Tiles.{sampleChecks, roomCheck, extracted, extraction, storeAfter, storeWith}
 use Rattle.rules.specs.declared.TileNumber.{TileNumber}
-use Rattle.rules.specs.declared.TileNumber.the-variants.{Tiles, Refused}
-use Rattle.sets.proofs.Calls.{refuses}
+use Rattle.rules.specs.declared.TileNumber.the-variants.{Refused}
+use Rattle.checks.proofs.Sides.{long}
 use Rattle.forms.specs.Sample.{Sample}
 
 pub sides-few : (rows cols : ℕ) → sampleSides rows cols ≡ true → (rows ≤ maxSampleSide) × (cols ≤ maxSampleSide)
@@ -26,10 +25,6 @@ sides-few rows cols e = (
   within-high 1 maxSampleSide cols (and-right (within 1 maxSampleSide rows) (within 1 maxSampleSide cols) e),
 )
 
-has-length : (plane : List ℕ) (n : ℕ) → hasLength plane n ≡ true → length plane ≡ n
-unfolding hasLength
-has-length plane n e = eqb-true (length plane) n e
-
 module _ (source : List ℕ) (rows cols count : ℕ) (n : ℕ) (e : n ≡ refusal (sampleChecks source rows cols count accepted)) where
   -- a sample that passed its checks
   pub sound : n ≡ 0 → Sample source rows cols
@@ -37,7 +32,7 @@ module _ (source : List ℕ) (rows cols count : ℕ) (n : ℕ) (e : n ≡ refusa
       let a = passed 0 (sampleSides rows cols) _ (sym e ∙ z) in
       let b = passed 1 (hasLength source (rows * cols)) _ (a .1) in
       let s = sides-few rows cols (a .0) in
-      record { low = s .0; narrow = s .1; whole = has-length source (rows * cols) (b .0) }
+      record { low = s .0; narrow = s .1; whole = long source (rows * cols) (b .0) }
 
   -- the checks of the sample come before the check of the room
   before-room : (more : Checks) → (n ≡ 0 → ⊥) → n ≡ refusal (sampleChecks source rows cols count more)
@@ -56,7 +51,7 @@ module _ (source : List ℕ) (rows cols count : ℕ) (n : ℕ) (e : n ≡ refusa
     unfolding extraction storeAfter
     told-refused h =
         record {
-          answered = refuses tileAnswer Refused Tiles (λ n a. refl) (λ a. refl) n _ _ (before-room (roomCheck (extracted source rows cols rotations reflections) store) h) h;
+          answered = refuses tileAnswer Refused (λ n a. refl) n _ _ (before-room (roomCheck (extracted source rows cols rotations reflections) store) h) h;
           leaves = sym (kept-old (refusal (sampleChecks source rows cols count accepted)) _ store (λ z. h (e ∙ z)));
         }
 

@@ -1,5 +1,5 @@
--- What adding one tile to the n tiles of a store answers and leaves: how many there are then to be kept, the store with those that fit, and,
--- where they fit, the chains over them.
+-- What adding one tile to the n tiles of a store answers and leaves: how many there are then to be kept, the store with those that fit,
+-- and, where they fit, the chains over them.
 use Prim.Native.Nat.{ℕ, _*_, _≤_}
 use mathlib.Core.Path.{_≡_}
 use mathlib.Core.List.{List}

@@ -1,6 +1,6 @@
 // The text's spatial/tiles.rs: every distinct 3x3 tile of a sample, in order of first appearance, into a store that the caller lends.
 ghost use mathlib.Core.Path.{_≡_};
-ghost use Prim.Native.Nat.{_+_, _*_, _/_, _<_, _≤_};
+ghost use Prim.Native.Nat.{_+_, _*_, _<_, _≤_};
 ghost use lib.ListN.{length, take};
 ghost use lib.Seq.{paste};
 ghost use Rattle.base.specs.Refusal.{refusal, accepted, Gives};

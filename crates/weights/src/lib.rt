@@ -1,7 +1,7 @@
 // Document 01, "Weights, counts, scores": the weights that a piece adds and takes back by the rule alone, its checks made. The loops run
 // over the span of radius 2 round the piece and leave every other cell alone.
 ghost use mathlib.Core.Path.{_≡_};
-ghost use Prim.Native.Nat.{ℕ, _+_, _-_, _*_, _<_, max};
+ghost use Prim.Native.Nat.{ℕ, _+_, _-_, _*_, max};
 ghost use mathlib.Core.List.{List};
 ghost use lib.ListN.{length};
 ghost use Rattle.base.proofs.Swept.{swept};

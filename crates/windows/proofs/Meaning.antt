@@ -90,8 +90,8 @@ module _ (g : Shape) (tiles pieces : List ℕ) (k t : ℕ) where
 
 -- ---- the flat board, in rows and columns
 
--- tile n agrees with the window that starts at (r, c): wherever a piece is laid on the board there, the tile has its colour. A laid piece of
--- colour t stores t + 1, a bare cell 1; a place past the bottom or the right asks nothing
+-- tile n agrees with the window that starts at (r, c): wherever a piece is laid on the board there, the tile has its colour. A laid piece
+-- of colour t stores t + 1, a bare cell 1; a place past the bottom or the right asks nothing
 pub AgreesFlat : ℕ → ℕ → List ℕ → List ℕ → ℕ → ℕ → ℕ → Type 0
 AgreesFlat rows cols tiles pieces r c n =
     (i : ℕ) → i < 9 → r + i / 3 < rows → c + i % 3 < cols → 1 < getD pieces ((r + i / 3) * cols + (c + i % 3)) 0
@@ -136,7 +136,8 @@ module _ (rows cols : ℕ) (tiles pieces : List ℕ) (board : Readable pieces ro
           above : {x : ℕ} → x - 1 ≡ pattern (flat rows cols) pieces (r * cols + c) i → 1 < x
           above {x} s = ⊎-elim (λ b. b) (λ b. absurd (laid (let z : x - 1 ≡ 0 = omega arith in sym s ∙ z))) (lt-or-le 1 x)
 
--- document 01's sentence, both ways: A colour is listed exactly if every kept window has a fitting tile with that colour at the cell's place
+-- document 01's sentence, both ways: A colour is listed exactly if every kept window has a fitting tile with that colour at the cell's
+-- place
 module _ (rows cols : ℕ) (tiles pieces : List ℕ) (board : Readable pieces rows cols) (row col t : ℕ) (across : col < cols) where
   pub listed-from : lists (flat rows cols) tiles pieces (row * cols + col) t ≡ true → ListedFlat rows cols tiles pieces row col t
   unfolding Listed ListedFlat

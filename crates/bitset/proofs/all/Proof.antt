@@ -5,7 +5,7 @@ use Rattle.rules.specs.Sets.{fullSet}
 use Rattle.base.proofs.Chain.{refuse, pass, no-check}
 use Rattle.base.proofs.Bools.{passes}
 use Rattle.sets.proofs.Calls.{set-refused, set-told, sized}
-use Rattle.bitset.proofs.Calls.{count-few}
+use Rattle.checks.proofs.Sides.{count-most}
 use borrow.Author.Needs.{needs}
 use Rattle.bitset.proofs.all.Statement.{statement}
 use Rattle.bitset.proofs.all.Tie as tie
@@ -18,7 +18,7 @@ unfolding fullSet
 returns c = set-refused 3 _ _ (refuse _ _ (c .before .colour-count .ensures) (c .if1 .taken)) (λ z. omega arith)
 
 all-colours-requires : tie.Need-all-colours-requires
-all-colours-requires c κs = count-few (c .before .before .args .size) (passes _ (c .before .colour-count .ensures) (c .if1 .left))
+all-colours-requires c κs = count-most (c .before .before .args .size) (passes _ (c .before .colour-count .ensures) (c .if1 .left))
 
 returns-2 : tie.Need-returns-2
 unfolding fullSet

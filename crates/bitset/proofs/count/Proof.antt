@@ -1,6 +1,10 @@
 -- `bitset::count` meets its contract: a refusal, or the number of bits set. Assumes nothing.
+use mathlib.Core.Path.{refl, sym, _∙_}
+use Rattle.base.proofs.Answered.{refuses, told}
+use Rattle.rules.specs.Answers.{numberAnswer}
 use Rattle.rules.specs.Sets.{membersCounted}
-use Rattle.bitset.proofs.Calls.{number-refused, number-told, sound}
+use Rattle.rules.specs.declared.Number.the-variants.{Refused}
+use Rattle.bitset.proofs.Calls.{sound}
 use borrow.Author.Needs.{needs}
 use Rattle.bitset.proofs.count.Statement.{statement}
 use Rattle.bitset.proofs.count.Tie as tie
@@ -10,7 +14,7 @@ set-refusal-requires c κs = search needs
 
 returns : tie.Need-returns
 unfolding membersCounted
-returns c = number-refused _ _ _ (c .before .set-refusal .ensures) (c .if1 .taken)
+returns c = refuses numberAnswer Refused (λ n a. refl) _ _ _ (c .before .set-refusal .ensures) (c .if1 .taken)
 
 colours-in-requires : tie.Need-colours-in-requires
 colours-in-requires c κs = search needs
@@ -21,7 +25,7 @@ cast-t5 c = search needs
 returns-2 : tie.Need-returns-2
 unfolding membersCounted
 returns-2 c = let s = c .before .before .before .args .set in let e = c .before .before .set-refusal .ensures in let z = c .before .if1 .left in
-    number-told _ _ _ _ e z (c .colours-in .ensures (s .size) (sound s _ e z .marked))
+    told numberAnswer _ (sym z ∙ e) (c .colours-in .ensures (s .size) (sound s _ e z .marked))
 
 pub count-spec : {M : Type 1} → statement M
 count-spec =

@@ -4,16 +4,16 @@ use native.Mathlib.Omega.{arith}
 use lib.Dec.{ltb}
 use Rattle.rules.specs.Sets.{marksWithin}
 use Rattle.sets.proofs.Words.{shl-one}
-use Rattle.bitset.proofs.Calls.{count-few}
+use Rattle.checks.proofs.Sides.{count-most}
 use Rattle.bitset.proofs.marks_within.Statement.{statement}
 use Rattle.bitset.proofs.marks_within.Tie as tie
 
 shl-result : tie.Need-shl-result
-shl-result c = omega (arith, count-few (c .before .args .set .size) (c .before .pre))
+shl-result c = omega (arith, count-most (c .before .args .set .size) (c .before .pre))
 
 returns : tie.Need-returns
 unfolding marksWithin
-returns c = ap (ltb (c .before .before .args .set .bits)) (shl-one 32 (c .before .before .args .set .size) (omega (arith, count-few (c .before .before .args .set .size) (c .before .before .pre))))
+returns c = ap (ltb (c .before .before .args .set .bits)) (shl-one 32 (c .before .before .args .set .size) (omega (arith, count-most (c .before .before .args .set .size) (c .before .before .pre))))
 
 pub marks-within-spec : {M : Type 1} → statement M
 marks-within-spec = tie.close (tie.spec shl-result returns)

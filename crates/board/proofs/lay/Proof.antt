@@ -1,7 +1,7 @@
 -- `board::lay` meets its contract: refused by its lengths, its tiles, its contents, its place or at last, or done. Assumes nothing.
-use Prim.Native.Nat.{ℕ}
 use mathlib.Core.Path.{refl, sym, _∙_, ap}
 use Rattle.base.specs.Refusal.{refusal}
+use Rattle.base.proofs.Answered.{was-refused, was-done}
 use Rattle.rules.specs.Answers.{layAnswer}
 use Rattle.rules.specs.Grid.{flat, numberOf}
 use Rattle.rules.specs.Board.{laid, layingChecks, afterLay}
@@ -12,7 +12,6 @@ use Rattle.nearness.proofs.Placing.{near-refused}
 use Rattle.planes.specs.Planes.{board, number}
 use Rattle.planes.proofs.Chains.{not-none}
 use Rattle.moves.proofs.Plane.{in-plane}
-use Rattle.board.proofs.Answers.{was-refused, was-done}
 use Rattle.board.proofs.Chains.{Passed, have-passed, by-lengths, by-tiles, by-contents, by-place, by-last, standing, colour-low}
 use borrow.Author.Needs.{needs}
 use Rattle.board.proofs.lay.Statement.{statement}

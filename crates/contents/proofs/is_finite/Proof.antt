@@ -1,4 +1,5 @@
--- `contents::is_finite` meets its contract. Assumes nothing.
+-- `contents::is_finite` meets its contract: the two comparisons are the definition's, and the pattern that stands for infinity is no NaN.
+-- Assumes nothing.
 use lib.Ieee.{nanBits}
 use borrow.Author.Needs.{needs}
 use Rattle.contents.proofs.is_finite.Statement.{statement}

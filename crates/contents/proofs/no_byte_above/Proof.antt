@@ -1,5 +1,6 @@
--- `contents::no_byte_above` meets its contract. The loop's invariant: the answer so far is the test of every cell passed. A byte is up to the limit
--- exactly if it is up to the number asked. Assumes nothing.
+-- `contents::no_byte_above` meets its contract. The loop's invariant: the answer so far is the test of every cell passed. A byte is up to
+-- the limit exactly if it is up to the number asked.
+-- Assumes nothing.
 use Prim.Native.Nat.{ℕ, _-_, _≤_, _<_}
 use mathlib.Core.Path.{_≡_, _∙_}
 use lib.ListN.{length, getD}

@@ -1,4 +1,5 @@
--- `ending::put_dead_end` meets its contract. Assumes nothing.
+-- `ending::put_dead_end` meets its contract: the words, the row, a space and the column's line, written one after the other.
+-- Assumes nothing.
 use Rattle.lines.proofs.Written.{writes-then}
 use Rattle.ending.specs.Ending.{deadEndText}
 use borrow.Author.Needs.{needs}

@@ -1,4 +1,4 @@
--- `ending::put_end` meets its contract. Assumes nothing.
+-- `ending::put_end` meets its contract: the planes, and after them what the scan found, whose cell lies on the board. Assumes nothing.
 use Rattle.lines.proofs.Written.{writes-then}
 use Rattle.ending.proofs.Scanned.{dead-end-near, end-is}
 use borrow.Author.Needs.{needs}

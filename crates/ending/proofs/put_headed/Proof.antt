@@ -1,4 +1,4 @@
--- `ending::put_headed` meets its contract. Assumes nothing.
+-- `ending::put_headed` meets its contract: the heading, and the plane after it. Assumes nothing.
 use Rattle.lines.proofs.Written.{writes-then}
 use borrow.Author.Needs.{needs}
 use Rattle.ending.proofs.put_headed.Statement.{statement}

@@ -1,4 +1,4 @@
--- `ending::put_planes` meets its contract. Assumes nothing.
+-- `ending::put_planes` meets its contract: three planes under their headings, one after the other. Assumes nothing.
 use Rattle.lines.proofs.Written.{writes-then}
 use Rattle.ending.specs.Ending.{planesText}
 use borrow.Author.Needs.{needs}

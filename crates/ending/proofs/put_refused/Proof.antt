@@ -1,4 +1,4 @@
--- `ending::put_refused` meets its contract. Assumes nothing.
+-- `ending::put_refused` meets its contract: the word, and the number's line after it. Assumes nothing.
 use Rattle.lines.proofs.Written.{writes-then}
 use Rattle.ending.specs.Ending.{refusedLine}
 use borrow.Author.Needs.{needs}

@@ -1,16 +1,17 @@
--- `fit::compute_viable_tiles_at_position` meets its contract: the checks of pieces and tiles, then of the place, then the list. Assumes nothing.
+-- `fit::compute_viable_tiles_at_position` meets its contract: the checks of pieces and tiles, then of the place, then the list.
+-- Assumes nothing.
 use Prim.Native.Nat.{_+_, _*_}
 use mathlib.Core.Path.{refl, sym, _∙_, ap}
 use Rattle.base.specs.Refusal.{accepted}
+use Rattle.base.proofs.Answered.{refuses, told}
 use Rattle.rules.specs.Answers.{listingAnswer}
 use Rattle.rules.specs.Sets.{setOf}
 use Rattle.rules.specs.Grid.{flat, numberOf}
 use Rattle.rules.specs.Fit.{lists, placeChecks, listing}
 use Rattle.rules.specs.declared.Cell.{Cell}
-use Rattle.rules.specs.declared.Listing.the-variants.{Colours}
+use Rattle.rules.specs.declared.Listing.the-variants.{Colours, Refused}
 use Rattle.windows.proofs.Accepted.{accepted-ready}
 use Rattle.fit.proofs.Accepted.{pieces-stop, pieces-go, place-on}
-use Rattle.fit.proofs.Calls.{listing-refused, told}
 use borrow.Author.Needs.{needs}
 use Rattle.fit.proofs.compute_viable_tiles_at_position.Statement.{statement}
 use Rattle.fit.proofs.compute_viable_tiles_at_position.Tie as tie
@@ -21,7 +22,7 @@ pieces-refused-requires c κs = search needs
 returns : tie.Need-returns
 unfolding listing
 returns c = let a = c .before .before .before .before .args in
-    listing-refused _ _ _ (pieces-stop (a .pieces .now) (a .rows) (a .cols) (a .tiles .now) (a .count) (placeChecks (a .rows) (a .cols) (a .position) (a .offset) accepted) _ (c .before .pieces-refused .ensures) (c .if1 .taken)) (c .if1 .taken)
+    refuses listingAnswer Refused (λ n a. refl) _ _ _ (pieces-stop (a .pieces .now) (a .rows) (a .cols) (a .tiles .now) (a .count) (placeChecks (a .rows) (a .cols) (a .position) (a .offset) accepted) _ (c .before .pieces-refused .ensures) (c .if1 .taken)) (c .if1 .taken)
 
 place-refused-requires : tie.Need-place-refused-requires
 place-refused-requires c κs = search needs
@@ -29,7 +30,7 @@ place-refused-requires c κs = search needs
 returns-2 : tie.Need-returns-2
 unfolding listing
 returns-2 c = let a = c .before .before .before .before .before .before .args in
-    listing-refused _ _ _ (pieces-go (a .pieces .now) (a .rows) (a .cols) (a .tiles .now) (a .count) (placeChecks (a .rows) (a .cols) (a .position) (a .offset) accepted) (c .before .before .before .pieces-refused .ensures) (c .before .before .if1 .left) (c .before .place-refused .ensures)) (c .if2 .taken)
+    refuses listingAnswer Refused (λ n a. refl) _ _ _ (pieces-go (a .pieces .now) (a .rows) (a .cols) (a .tiles .now) (a .count) (placeChecks (a .rows) (a .cols) (a .position) (a .offset) accepted) (c .before .before .before .pieces-refused .ensures) (c .before .before .if1 .left) (c .before .place-refused .ensures)) (c .if2 .taken)
 
 cell-of-requires : tie.Need-cell-of-requires
 cell-of-requires c κs = search needs

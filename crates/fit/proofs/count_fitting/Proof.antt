@@ -6,12 +6,13 @@ use borrow.Author.Tests.{eqb-false}
 use Rattle.base.specs.Refusal.{accepted, _unless_or_}
 use Rattle.base.proofs.Bools.{passes}
 use Rattle.base.proofs.Chain.{refuse, pass, no-check}
+use Rattle.base.proofs.Answered.{refuses, told}
 use Rattle.rules.specs.Bounds.{PLACE}
 use Rattle.rules.specs.Answers.{numberAnswer}
 use Rattle.rules.specs.Fit.{regionCount}
+use Rattle.rules.specs.declared.Number.the-variants.{Refused}
 use Rattle.windows.proofs.Accepted.{accepted-ready}
 use Rattle.fit.proofs.Accepted.{pieces-stop, pieces-go, grid-on}
-use Rattle.fit.proofs.Calls.{number-refused, told}
 use borrow.Author.Needs.{needs}
 use Rattle.fit.proofs.count_fitting.Statement.{statement}
 use Rattle.fit.proofs.count_fitting.Tie as tie
@@ -22,7 +23,7 @@ pieces-refused-requires c κs = search needs
 returns : tie.Need-returns
 unfolding regionCount
 returns c = let a = c .before .before .before .before .args in
-    number-refused _ _ _ (pieces-stop (a .pieces .now) (a .rows) (a .cols) (a .tiles .now) (a .count) (PLACE unless ltb (a .start .0) (a .rows) && ltb (a .start .1) (a .cols) or accepted) _ (c .before .pieces-refused .ensures) (c .if1 .taken)) (c .if1 .taken)
+    refuses numberAnswer Refused (λ n a. refl) _ _ _ (pieces-stop (a .pieces .now) (a .rows) (a .cols) (a .tiles .now) (a .count) (PLACE unless ltb (a .start .0) (a .rows) && ltb (a .start .1) (a .cols) or accepted) _ (c .before .pieces-refused .ensures) (c .if1 .taken)) (c .if1 .taken)
 
 on-grid-requires : tie.Need-on-grid-requires
 on-grid-requires c κs = search needs
@@ -30,7 +31,7 @@ on-grid-requires c κs = search needs
 returns-2 : tie.Need-returns-2
 unfolding regionCount
 returns-2 c = let a = c .before .before .before .before .before .before .args in
-    number-refused _ _ _ (pieces-go (a .pieces .now) (a .rows) (a .cols) (a .tiles .now) (a .count) (PLACE unless ltb (a .start .0) (a .rows) && ltb (a .start .1) (a .cols) or accepted) (c .before .before .before .pieces-refused .ensures) (c .before .before .if1 .left) (refuse _ _ (c .before .on-grid .ensures) (c .if2 .taken))) (eqb-false PLACE 0 refl)
+    refuses numberAnswer Refused (λ n a. refl) _ _ _ (pieces-go (a .pieces .now) (a .rows) (a .cols) (a .tiles .now) (a .count) (PLACE unless ltb (a .start .0) (a .rows) && ltb (a .start .1) (a .cols) or accepted) (c .before .before .before .pieces-refused .ensures) (c .before .before .if1 .left) (refuse _ _ (c .before .on-grid .ensures) (c .if2 .taken))) (eqb-false PLACE 0 refl)
 
 fit-count-at-requires : tie.Need-fit-count-at-requires
 fit-count-at-requires c κs = let a = c .before .before .before .before .before .before .args in

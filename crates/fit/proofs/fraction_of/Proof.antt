@@ -1,4 +1,5 @@
--- `fit::fraction_of` meets its contract. Assumes nothing.
+-- `fit::fraction_of` meets its contract: count and tiles are whole numbers that a float holds, so the quotient is the definition's.
+-- Assumes nothing.
 use Prim.Native.Nat.{_^_}
 use mathlib.Core.Path.{refl}
 use native.Mathlib.Omega.{arith}

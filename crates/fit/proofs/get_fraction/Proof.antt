@@ -1,10 +1,11 @@
 -- `fit::get_fraction` meets its contract: the checks, then the division. Assumes nothing.
-use mathlib.Core.Path.{sym, _∙_}
+use mathlib.Core.Path.{refl, sym, _∙_}
 use native.Mathlib.Omega.{arith}
+use Rattle.base.proofs.Answered.{refuses, told}
 use Rattle.rules.specs.Answers.{fractionAnswer}
 use Rattle.rules.specs.Scores.{fractionAt}
+use Rattle.rules.specs.declared.FractionAnswer.the-variants.{Refused}
 use Rattle.fit.proofs.Accepted.{accepted-counted}
-use Rattle.fit.proofs.Calls.{fraction-refused, told}
 use borrow.Author.Needs.{needs}
 use Rattle.fit.proofs.get_fraction.Statement.{statement}
 use Rattle.fit.proofs.get_fraction.Tie as tie
@@ -14,7 +15,7 @@ fraction-refused-requires c κs = search needs
 
 returns : tie.Need-returns
 unfolding fractionAt
-returns c = fraction-refused _ _ _ (c .before .fraction-refused .ensures) (c .if1 .taken)
+returns c = refuses fractionAnswer Refused (λ n a. refl) _ _ _ (c .before .fraction-refused .ensures) (c .if1 .taken)
 
 mul-fraction-of : tie.Need-mul-fraction-of
 mul-fraction-of c = let a = c .before .before .before .before .args in

@@ -1,4 +1,4 @@
--- `fit::on_grid` meets its contract. Assumes nothing.
+-- `fit::on_grid` meets its contract: the column is asked only where the row lies on the grid. Assumes nothing.
 use mathlib.Core.Path.{refl}
 use borrow.Author.Tests.{lt-ltb, le-ltb}
 use Rattle.base.proofs.Bools.{and-go, and-stop}

@@ -4,20 +4,23 @@ use lib.Dec.{lit<}
 use lib.IntN.{pos, _+ℤ_}
 use mir.Syntax.{w32}
 use mir.Val.{ofZ}
-use Rattle.base.proofs.Signs.{Reads, tested, ranged, nat-is, one-is, add-fits, sub-fits, added, subbed, addB}
+use Rattle.base.proofs.Signs.{Reads, given, ranged, counted, add-fits, sub-fits, added, subbed, addB}
 use borrow.Author.Needs.{needs}
 use Rattle.forced.proofs.beside.Statement.{statement}
 use Rattle.forced.proofs.beside.Tie as tie
 
 module _ (c : tie.Start) where
-  coordinate-is : Reads (ofZ w32 (c .args .coordinate)) (c .args .coordinate) 1000001
-  coordinate-is = tested (ranged 999999 1000000 (c .args .coordinate) (c .pre .0) (lit< tt) (lit< tt)) tt
+  coordinate-is : Reads w32 (ofZ w32 (c .args .coordinate)) (c .args .coordinate) 1000001
+  coordinate-is = given w32 (ranged 999999 1000000 (c .args .coordinate) (c .pre .0) (lit< tt) (lit< tt)) tt
 
-  step-is : Reads (c .args .step) (pos (c .args .step)) 3
-  step-is = nat-is (c .pre .1) tt
+  step-is : Reads w32 (c .args .step) (pos (c .args .step)) 3
+  step-is = counted w32 (c .pre .1) tt
 
-  sum-is : Reads (addB (ofZ w32 (c .args .coordinate)) (c .args .step)) (c .args .coordinate +ℤ pos (c .args .step)) 1000004
+  sum-is : Reads w32 (addB w32 (ofZ w32 (c .args .coordinate)) (c .args .step)) (c .args .coordinate +ℤ pos (c .args .step)) 1000004
   sum-is = added coordinate-is step-is tt
+
+one-is : Reads w32 1 (pos 1) 2
+one-is = counted w32 (lit< tt) tt
 
 cast-result : tie.Need-cast-result
 cast-result c = search needs

@@ -6,9 +6,10 @@ use mathlib.Core.List.{List}
 use native.Mathlib.Omega.{arith}
 use lib.ListN.{length, getD}
 use lib.Ieee.{Float, nan}
+use Rattle.base.proofs.Numbers.{rows-apart}
 use Rattle.rules.specs.declared.Span.{Span}
 use Rattle.floats.proofs.Sweep.{Sweep}
-use Rattle.floats.proofs.Rows.{rows-start, rows-turn, rows-done, row-room}
+use Rattle.floats.proofs.Rows.{rows-start, rows-turn, rows-done}
 use Rattle.influence.specs.Step.{regionIn, blockOf, changedAt, colourChanged, blockRow}
 use Rattle.influence.proofs.Step.{unchanged, cell-change, row-starts, row-ends}
 use borrow.Author.Needs.{needs}
@@ -31,7 +32,7 @@ room : (c : tie.After-block-row Inv-loop μ-loop)
     c .before .before .before .loop .r * s .args .cols + s .args .colspan .1 ≤ length (s .args .plane .now)
 room c =
     let s = c .before .before .before .before .before .before in
-    omega (arith, row-room {rows = s .args .rowspan .1} (s .args .cols) (c .before .if1 .taken))
+    omega (arith, rows-apart {b = s .args .rowspan .1} (s .args .cols) (c .before .if1 .taken))
 
 -- the block's row for it is in the block
 starts : (c : tie.After-block-row Inv-loop μ-loop) → c .block-row .result .0 ≤ c .block-row .result .1

@@ -7,10 +7,10 @@ use native.Mathlib.Omega.{arith}
 use native.Mathlib.Nat.{le-refl, zero-mul}
 use lib.ListN.{length, getD}
 use lib.Ieee.{Float, nan}
-use Rattle.base.proofs.Numbers.{mul-le}
+use Rattle.base.proofs.Numbers.{mul-le, rows-apart}
 use Rattle.rules.specs.declared.Span.{Span}
 use Rattle.floats.proofs.Sweep.{Sweep, sweep-none, sweep-at, sweep-part, sweep-all, length-part}
-use Rattle.floats.proofs.Rows.{row-room, next-row}
+use Rattle.floats.proofs.Rows.{next-row}
 use Rattle.influence.specs.Step.{regionIn, blockOf, changedAt, colourChanged, coloursChanged}
 use Rattle.influence.proofs.Step.{colour-change}
 use borrow.Author.Needs.{needs}
@@ -34,14 +34,14 @@ abbrev μ-loop : tie.MeasureT-loop
 room : (c : tie.In-loop Inv-loop μ-loop)
     → let s = c .before .before .before .before in
     c .before .loop .t * s .args .cells + s .args .cells ≤ length (s .args .plane .now)
-room c = let s = c .before .before .before .before in omega (arith, row-room {rows = s .args .count} (s .args .cells) (c .loop-test .taken))
+room c = let s = c .before .before .before .before in omega (arith, rows-apart {b = s .args .count} (s .args .cells) (c .loop-test .taken))
 
 block-room : (c : tie.In-loop Inv-loop μ-loop)
     → let s = c .before .before .before .before in
     c .before .loop .t * (s .args .brows * s .args .bcols) + s .args .brows * s .args .bcols ≤ length (s .args .block .now)
 block-room c =
     let s = c .before .before .before .before in
-    omega (arith, row-room {rows = s .args .count} (s .args .brows * s .args .bcols) (c .loop-test .taken))
+    omega (arith, rows-apart {b = s .args .count} (s .args .brows * s .args .bcols) (c .loop-test .taken))
 
 mul-entries : tie.Need-mul-entries Inv-loop μ-loop
 mul-entries c = record { fits = omega (arith, mul-le (c .before .before .pre .block-rows) (c .before .before .pre .block-cols)) }

@@ -1,4 +1,4 @@
--- `lines::put` meets its contract. Assumes nothing.
+-- `lines::put` meets its contract: a byte within the page is written, past its end nothing changes. Assumes nothing.
 use Rattle.lines.proofs.Written.{writes-byte, writes-full}
 use borrow.Author.Needs.{needs}
 use Rattle.lines.proofs.put.Statement.{statement}

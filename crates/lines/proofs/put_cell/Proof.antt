@@ -1,4 +1,4 @@
--- `lines::put_cell` meets its contract. Assumes nothing.
+-- `lines::put_cell` meets its contract: the number of the cell, and the gap after it, by `cell-is`. Assumes nothing.
 use Rattle.lines.proofs.Texts.{cell-is}
 use borrow.Author.Needs.{needs}
 use Rattle.lines.proofs.put_cell.Statement.{statement}

@@ -1,4 +1,4 @@
--- `lines::put_number` meets its contract. Assumes nothing.
+-- `lines::put_number` meets its contract: a decimal is the ten digits at most that its callee writes. Assumes nothing.
 use Rattle.lines.specs.Lines.{decimal}
 use borrow.Author.Needs.{needs}
 use Rattle.lines.proofs.put_number.Statement.{statement}

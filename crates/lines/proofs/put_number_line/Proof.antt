@@ -1,4 +1,4 @@
--- `lines::put_number_line` meets its contract. Assumes nothing.
+-- `lines::put_number_line` meets its contract: the number, and the line feed after it. Assumes nothing.
 use Rattle.lines.specs.Lines.{numberLine}
 use Rattle.lines.proofs.Written.{writes-then}
 use borrow.Author.Needs.{needs}

@@ -1,4 +1,4 @@
--- `lister::list` meets its contract. Assumes nothing.
+-- `lister::list` meets its contract: what its callee wrote ends within the page, so the number counts bytes of it. Assumes nothing.
 use Rattle.lister.proofs.Telling.{writes-counts}
 use borrow.Author.Needs.{needs}
 use Rattle.lister.proofs.list.Statement.{statement}

@@ -1,4 +1,5 @@
--- `lister::list_input` meets its contract. Assumes nothing.
+-- `lister::list_input` meets its contract: numbers that were read are listed, anything else is bad input, and the store is never full.
+-- Assumes nothing.
 use mathlib.Core.Path.{sym}
 use native.Mathlib.Omega.{arith}
 use Prim.Native.Nat.{ℕ}

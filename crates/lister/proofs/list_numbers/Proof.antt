@@ -1,4 +1,4 @@
--- `lister::list_numbers` meets its contract. Assumes nothing.
+-- `lister::list_numbers` meets its contract: a job of the form is listed, any other numbers are bad input. Assumes nothing.
 use Rattle.lines.proofs.Written.{writes-as}
 use Rattle.lister.proofs.Telling.{form-formed, form-told, form-misses}
 use borrow.Author.Needs.{needs}

@@ -2,7 +2,8 @@
 use Prim.Native.Nat.{_-_, _≤_}
 use mathlib.Core.Path.{_≡_, _∙_, ap}
 use native.Mathlib.Omega.{arith}
-use Rattle.membership.proofs.Cells.{coloursTo, to-none, to-turn, cell-le, count-few}
+use Rattle.checks.proofs.Sides.{none-above, count-most}
+use Rattle.membership.proofs.Cells.{coloursTo, to-none, to-turn}
 use borrow.Author.Needs.{needs}
 use Rattle.membership.proofs.colours_of.Statement.{statement}
 use Rattle.membership.proofs.colours_of.Tie as tie
@@ -20,10 +21,10 @@ array-read-with-colour : tie.Need-array-read-with-colour Inv-loop μ-loop
 array-read-with-colour c = search needs
 
 cast-with-colour : tie.Need-cast-with-colour Inv-loop μ-loop
-cast-with-colour c = record { fits = omega (arith, cell-le (c .before .before .args .t1) (c .before .before .args .count) (c .before .loop .k) (c .before .before .pre .1) (omega arith)) }
+cast-with-colour c = record { fits = omega (arith, none-above (c .before .before .args .t1) (c .before .before .args .count) (c .before .before .pre .1) (c .before .loop .k) (omega arith)) }
 
 with-colour-requires : tie.Need-with-colour-requires Inv-loop μ-loop
-with-colour-requires c κs = omega (arith, cell-le (c .before .before .args .t1) (c .before .before .args .count) (c .before .loop .k) (c .before .before .pre .1) (omega arith), count-few _ (c .before .before .pre .0))
+with-colour-requires c κs = omega (arith, none-above (c .before .before .args .t1) (c .before .before .args .count) (c .before .before .pre .1) (c .before .loop .k) (omega arith), count-most _ (c .before .before .pre .0))
 
 add-k : tie.Need-add-k Inv-loop μ-loop
 add-k c = search needs
@@ -33,7 +34,7 @@ loop-less c = search needs
 
 loop-again : tie.Need-loop-again Inv-loop μ-loop
 loop-again c = let a = c .before .before .before .args in
-    (omega arith, to-turn (a .t1) (a .count) _ _ _ (c .before .before .loop .inv .1) (cell-le (a .t1) (a .count) (c .before .before .loop .k) (c .before .before .before .pre .1) (omega arith)) (c .with-colour .ensures))
+    (omega arith, to-turn (a .t1) (a .count) _ _ _ (c .before .before .loop .inv .1) (none-above (a .t1) (a .count) (c .before .before .before .pre .1) (c .before .before .loop .k) (omega arith)) (c .with-colour .ensures))
 
 returns : tie.Need-returns Inv-loop μ-loop
 returns c = let nine : c .before .loop .k ≡ 9 = omega arith in c .before .loop .inv .1 ∙ ap (coloursTo (c .before .before .args .t1) (c .before .before .args .count)) nine

@@ -1,4 +1,4 @@
--- `pattern::colour_at` meets its contract. Assumes nothing.
+-- `pattern::colour_at` meets its contract: past the grid the cell is bare, on it the piece is read at its number, less 1. Assumes nothing.
 use Prim.Native.Nat.{_+_, _*_, _<_, _≤_}
 use mathlib.Core.Path.{sym, ap}
 use native.Mathlib.Omega.{arith}

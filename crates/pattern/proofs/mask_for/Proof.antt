@@ -1,4 +1,4 @@
--- `pattern::mask_for` meets its contract. Assumes nothing.
+-- `pattern::mask_for` meets its contract: the test for 0 picks the mask. Assumes nothing.
 use mathlib.Core.Path.{sym}
 use borrow.Author.Tests.{eq-eqb, ne-eqb}
 use Rattle.base.proofs.Bools.{pick-yes, pick-no}

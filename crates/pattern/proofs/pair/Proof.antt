@@ -1,4 +1,4 @@
--- `pattern::pair` meets its contract. Assumes nothing.
+-- `pattern::pair` meets its contract: two bytes, the higher times 256, fit 64 bits and make a word of two, by `pair-is`. Assumes nothing.
 use Prim.Native.Nat.{_+_}
 use native.Mathlib.Omega.{arith}
 use Rattle.pattern.proofs.Words.{pair-is}

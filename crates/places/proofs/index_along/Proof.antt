@@ -1,28 +1,22 @@
--- `places::index_along` meets its contract: two numbers of 32 bits have a sum of 64.
+-- `places::index_along` meets its contract: the index, clipped.
 -- Assumes nothing.
 use borrow.Author.Needs.{needs}
 use mathlib.Core.Path.{_∙_, ap}
 use Rattle.base.specs.Whole.{clip}
-use Rattle.places.proofs.Wide.{widened, cast-fits, add-fits, added}
+use Rattle.places.proofs.Wide.{index-is}
 use Rattle.places.proofs.index_along.Statement.{statement}
 use Rattle.places.proofs.index_along.Tie as tie
 
-cast-clip-to : tie.Need-cast-clip-to
-cast-clip-to c = cast-fits (c .fits .coordinate)
-
-cast-clip-to-2 : tie.Need-cast-clip-to-2
-cast-clip-to-2 c = cast-fits (c .fits .offset)
-
-add-clip-to : tie.Need-add-clip-to
-add-clip-to c = add-fits (widened (c .fits .coordinate)) (widened (c .fits .offset)) tt
+signed-index-requires : tie.Need-signed-index-requires
+signed-index-requires c κs = search needs
 
 clip-to-requires : tie.Need-clip-to-requires
 clip-to-requires c κs = search needs
 
 returns : tie.Need-returns
 returns c =
-    let f = c .before .fits in
-    c .clip-to .ensures ∙ ap (clip) (added (widened (f .coordinate)) (widened (f .offset)) tt .is)
+    let f = c .before .before .fits in
+    c .clip-to .ensures ∙ ap clip (index-is (f .coordinate) (f .offset) (c .before .signed-index .ensures) .is)
 
 pub index-along-spec : {M : Type 1} → statement M
-index-along-spec = tie.close (tie.spec cast-clip-to cast-clip-to-2 add-clip-to clip-to-requires returns)
+index-along-spec = tie.close (tie.spec signed-index-requires clip-to-requires returns)

@@ -1,7 +1,8 @@
 -- `places_cases::signed` is safe: a number of 32 bits and its opposite fit 64.
 -- Assumes nothing.
 use borrow.Author.Needs.{needs}
-use Rattle.places.proofs.Wide.{widened, cast-fits, sub-fits}
+use Rattle.base.proofs.Signs.{sub-fits}
+use Rattle.places.proofs.Wide.{widened, cast-fits}
 use Rattle.extension.proofs.Edges.{zero-is}
 use Rattle.places_cases.proofs.signed.Statement.{statement}
 use Rattle.places_cases.proofs.signed.Tie as tie

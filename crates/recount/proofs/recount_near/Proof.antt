@@ -1,4 +1,6 @@
--- `recount::recount_near` meets its contract. The loop's invariant is `InNear`: the rows passed are recounted, the others are as they were. Assumes nothing.
+-- `recount::recount_near` meets its contract. The loop's invariant is `InNear`: the rows passed are recounted, the others are as they
+-- were.
+-- Assumes nothing.
 use Prim.Native.Nat.{_+_, _-_}
 use mathlib.Core.Path.{_∙_}
 use native.Mathlib.Nat.{min-le-right}

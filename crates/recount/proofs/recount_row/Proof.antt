@@ -1,4 +1,6 @@
--- `recount::recount_row` meets its contract. The loop's invariant is `RowUpTo`: the cells passed are recounted, the rest of the row is as it was. Assumes nothing.
+-- `recount::recount_row` meets its contract. The loop's invariant is `RowUpTo`: the cells passed are recounted, the rest of the row is as
+-- it was.
+-- Assumes nothing.
 use Prim.Native.Nat.{_-_, _*_, _≤_}
 use native.Mathlib.Omega.{arith}
 use Rattle.recount.specs.Checks.{recountedAt}

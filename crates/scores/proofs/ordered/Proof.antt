@@ -1,4 +1,4 @@
--- `scores::ordered` meets its contract. Assumes nothing.
+-- `scores::ordered` meets its contract: the start is the lesser of the two ends, as its callee answers. Assumes nothing.
 use borrow.Author.Needs.{needs}
 use Rattle.scores.proofs.ordered.Statement.{statement}
 use Rattle.scores.proofs.ordered.Tie as tie

@@ -1,4 +1,4 @@
--- `scoring::past_targets` meets its contract. Assumes nothing.
+-- `scoring::past_targets` meets its contract: the end is held to the side and the start to the end, as its callee answers. Assumes nothing.
 use borrow.Author.Needs.{needs}
 use Rattle.scoring.proofs.past_targets.Statement.{statement}
 use Rattle.scoring.proofs.past_targets.Tie as tie

@@ -5,8 +5,9 @@ use native.Mathlib.Omega.{arith}
 use lib.ListN.{length}
 use lib.Ieee.{nan}
 use Rattle.base.proofs.Bools.{pick-no}
+use Rattle.base.proofs.Numbers.{rows-apart}
 use Rattle.floats.proofs.Sweep.{Sweep, length-part}
-use Rattle.floats.proofs.Rows.{rows-start, rows-turn, rows-done, row-room}
+use Rattle.floats.proofs.Rows.{rows-start, rows-turn, rows-done}
 use Rattle.scoring.specs.Region.{regionScored}
 use Rattle.scoring.proofs.Region.{scoredCell, cell-scored}
 use borrow.Author.Needs.{needs}
@@ -25,7 +26,7 @@ room : (c : tie.Then1 Inv-loop μ-loop)
     c .before .before .loop .r * s .args .cols + s .args .cols ≤ length (s .args .scores .now)
 room c =
     let s = c .before .before .before .before .before in
-    omega (arith, row-room {rows = s .args .rowspan .1} (s .args .cols) (c .if1 .taken), s .pre .region .room)
+    omega (arith, rows-apart {b = s .args .rowspan .1} (s .args .cols) (c .if1 .taken), s .pre .region .room)
 
 loop-holds : tie.Need-loop-holds Inv-loop μ-loop
 loop-holds c = let s = c .before .before in

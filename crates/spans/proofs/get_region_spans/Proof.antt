@@ -1,10 +1,11 @@
 -- `spans::get_region_spans` meets its contract: a refusal is handed on, and without one the two spans are answered.
 -- Assumes nothing.
 use borrow.Author.Needs.{needs}
-use Prim.Native.Nat.{ℕ, zero, suc}
-use mathlib.Core.Path.{_≡_, refl, sym, _∙_, ap}
+use Prim.Native.Nat.{ℕ}
+use mathlib.Core.Path.{_≡_, refl, sym, _∙_}
 use lib.IntN.{_+ℤ_}
 use Rattle.base.specs.Refusal.{refusal}
+use Rattle.base.proofs.Answered.{refuses}
 use Rattle.rules.specs.Answers.{spanAnswer}
 use Rattle.rules.specs.Places.{spanOf, spanChecks, regionSpans}
 use Rattle.rules.specs.declared.Offset.{Offset}
@@ -19,8 +20,7 @@ use Rattle.spans.proofs.get_region_spans.Tie as tie
 module _ (o : Offset) (w : World) (k : ℕ) where
   refused : (n : ℕ) → n ≡ refusal (spanChecks o w k) → (n ≡ 0 → ⊥) → Refused n ≡ regionSpans o w k
   unfolding regionSpans
-  refused zero e h = absurd (h refl)
-  refused (suc n) e h = ap (λ (m : ℕ). spanAnswer m (spanOf (w .0 +ℤ o .0) k) (spanOf (w .1 +ℤ o .1) k)) e
+  refused n e h = refuses (λ (m : ℕ) (s : Span). spanAnswer m (spanOf (w .0 +ℤ o .0) k) s) Refused (λ m s. refl) n _ (spanOf (w .1 +ℤ o .1) k) e h
 
   answered : {n : ℕ} {r s : Span} → n ≡ refusal (spanChecks o w k) → n ≡ 0 → r ≡ spanOf (w .0 +ℤ o .0) k → s ≡ spanOf (w .1 +ℤ o .1) k → Spans r s ≡ regionSpans o w k
   unfolding regionSpans

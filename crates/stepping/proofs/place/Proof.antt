@@ -1,4 +1,4 @@
--- `stepping::place` meets its contract. Assumes nothing.
+-- `stepping::place` meets its contract: numbers up to a million are the same as 32-bit coordinates. Assumes nothing.
 use Rattle.stepping.proofs.Walking.{coordinate}
 use borrow.Author.Needs.{needs}
 use Rattle.stepping.proofs.place.Statement.{statement}

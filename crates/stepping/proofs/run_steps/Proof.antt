@@ -1,4 +1,6 @@
--- `stepping::run_steps` meets its contract. The loop's invariant: the planes and the page keep their lengths, and what is left to do comes to the whole. Assumes nothing.
+-- `stepping::run_steps` meets its contract. The loop's invariant: the planes and the page keep their lengths, and what is left to do comes
+-- to the whole.
+-- Assumes nothing.
 use mathlib.Core.Path.{_≡_, _∙_}
 use native.Mathlib.Omega.{arith}
 use Prim.Native.Nat.{_-_}

@@ -1,4 +1,4 @@
--- `stepping::step` meets its contract. Assumes nothing.
+-- `stepping::step` meets its contract: the step is taken, and its answer written on a line of its own. Assumes nothing.
 use Rattle.stepping.proofs.Walking.{stepped}
 use borrow.Author.Needs.{needs}
 use Rattle.stepping.proofs.step.Statement.{statement}
@@ -6,9 +6,6 @@ use Rattle.stepping.proofs.step.Tie as tie
 
 take-step-requires : tie.Need-take-step-requires
 take-step-requires c κs = search needs
-
-wide-requires : tie.Need-wide-requires
-wide-requires c κs = search needs
 
 put-number-line-requires : tie.Need-put-number-line-requires
 put-number-line-requires c κs = search needs
@@ -26,14 +23,13 @@ same-length-4 : tie.Need-same-length-4
 same-length-4 c = search needs
 
 returns : tie.Need-returns
-returns c = stepped _ _ _ (c .before .before .before .before .before .before .before .before .before .before .before .take-step .ensures) (c .before .before .before .wide .ensures) (c .before .before .put-number-line .ensures)
+returns c = stepped _ _ _ (c .before .before .before .before .before .before .before .before .before .before .take-step .ensures) (c .before .before .put-number-line .ensures)
 
 pub step-spec : {M : Type 1} → statement M
 step-spec =
     tie.close
     (tie.spec
     take-step-requires
-    wide-requires
     put-number-line-requires
     same-length
     same-length-2

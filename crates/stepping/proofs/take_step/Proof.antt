@@ -1,4 +1,5 @@
--- `stepping::take_step` meets its contract. Assumes nothing.
+-- `stepping::take_step` meets its contract: the first number decides between lay and lift; the numbers of the step are all there.
+-- Assumes nothing.
 use native.Mathlib.Omega.{arith}
 use Prim.Native.Nat.{_+_}
 use Rattle.ending.specs.Ending.{jobWith}
@@ -46,8 +47,8 @@ shared-slice-read-colour c = omega (arith, four (c .before .before .before .befo
 lay-requires : tie.Need-lay-requires
 lay-requires c κs = search needs
 
-lay-number-requires : tie.Need-lay-number-requires
-lay-number-requires c κs = search needs
+laid-requires : tie.Need-laid-requires
+laid-requires c κs = search needs
 
 same-length : tie.Need-same-length
 same-length c = search needs
@@ -60,13 +61,13 @@ same-length-3 c = search needs
 
 returns : tie.Need-returns
 unfolding jobWith
-returns c = took-lay _ _ _ _ _ _ (at-lay _ _ (c .before .before .before .before .before .before .before .before .before .before .before .before .before .before .before .before .before .before .before .before .before .before .pre .1) (c .before .before .before .before .before .before .before .before .before .before .before .before .before .before .before .before .before .before .before .before .before .before .pre .0 .whole) (c .before .before .before .before .before .before .before .before .before .before .before .before .if1 .taken)) (c .before .before .before .before .before .before .before .before .before .before .before .before .before .before .place .ensures) (c .before .before .before .before .before .before .before .lay .ensures) (c .lay-number .ensures)
+returns c = took-lay _ _ _ _ _ _ (at-lay _ _ (c .before .before .before .before .before .before .before .before .before .before .before .before .before .before .before .before .before .before .before .before .before .before .pre .1) (c .before .before .before .before .before .before .before .before .before .before .before .before .before .before .before .before .before .before .before .before .before .before .pre .0 .whole) (c .before .before .before .before .before .before .before .before .before .before .before .before .if1 .taken)) (c .before .before .before .before .before .before .before .before .before .before .before .before .before .before .place .ensures) (c .before .before .before .before .before .before .before .lay .ensures) (c .laid .ensures)
 
 lift-requires : tie.Need-lift-requires
 lift-requires c κs = search needs
 
-lift-number-requires : tie.Need-lift-number-requires
-lift-number-requires c κs = search needs
+lifted-requires : tie.Need-lifted-requires
+lifted-requires c κs = search needs
 
 same-length-4 : tie.Need-same-length-4
 same-length-4 c = search needs
@@ -79,7 +80,7 @@ same-length-6 c = search needs
 
 returns-2 : tie.Need-returns-2
 unfolding jobWith
-returns-2 c = took-lift _ _ _ _ _ (at-lift _ _ (c .before .before .before .before .before .before .before .before .before .before .before .before .before .before .before .before .before .before .before .before .before .pre .1) (c .before .before .before .before .before .before .before .before .before .before .before .before .before .before .before .before .before .before .before .before .before .pre .0 .whole) (c .before .before .before .before .before .before .before .before .before .before .before .if1 .left)) (c .before .before .before .before .before .before .before .before .before .before .before .before .before .place .ensures) (c .before .before .before .before .before .before .before .lift .ensures) (c .lift-number .ensures)
+returns-2 c = took-lift _ _ _ _ _ (at-lift _ _ (c .before .before .before .before .before .before .before .before .before .before .before .before .before .before .before .before .before .before .before .before .before .pre .1) (c .before .before .before .before .before .before .before .before .before .before .before .before .before .before .before .before .before .before .before .before .before .pre .0 .whole) (c .before .before .before .before .before .before .before .before .before .before .before .if1 .left)) (c .before .before .before .before .before .before .before .before .before .before .before .before .before .place .ensures) (c .before .before .before .before .before .before .before .lift .ensures) (c .lifted .ensures)
 
 pub take-step-spec : {M : Type 1} → statement M
 take-step-spec =
@@ -98,13 +99,13 @@ take-step-spec =
     mul-colour
     shared-slice-read-colour
     lay-requires
-    lay-number-requires
+    laid-requires
     same-length
     same-length-2
     same-length-3
     returns
     lift-requires
-    lift-number-requires
+    lifted-requires
     same-length-4
     same-length-5
     same-length-6

@@ -1,4 +1,6 @@
--- `weights::lower_row` meets its contract. The loop's invariant is `RowUpTo`: the cells passed are lowered, the rest of the row is as it was. Assumes nothing.
+-- `weights::lower_row` meets its contract. The loop's invariant is `RowUpTo`: the cells passed are lowered, the rest of the row is as it
+-- was.
+-- Assumes nothing.
 use Prim.Native.Nat.{_-_, _*_, _≤_}
 use native.Mathlib.Omega.{arith}
 use Rattle.weights.specs.Shares.{loweredAt}

@@ -1,4 +1,6 @@
--- `weights::raise_row` meets its contract. The loop's invariant is `RowUpTo`: the cells passed are raised, the rest of the row is as it was. Assumes nothing.
+-- `weights::raise_row` meets its contract. The loop's invariant is `RowUpTo`: the cells passed are raised, the rest of the row is as it
+-- was.
+-- Assumes nothing.
 use Prim.Native.Nat.{ℕ, _+_, _-_, _*_, _<_, _≤_, max}
 use native.Mathlib.Omega.{arith}
 use lib.ListN.{length}

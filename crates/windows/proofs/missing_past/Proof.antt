@@ -1,4 +1,4 @@
--- `windows::missing_past` meets its contract. Assumes nothing.
+-- `windows::missing_past` meets its contract: a tile that does not fit takes nothing away, one that fits its colour at q. Assumes nothing.
 use Prim.Native.Nat.{_+_, _*_}
 use mathlib.Core.Path.{_∙_}
 use native.Mathlib.Omega.{arith}

@@ -1,4 +1,5 @@
--- `windows::narrowed` meets its contract: a window that starts above or left is skipped, any other is read and its colours found. Assumes nothing.
+-- `windows::narrowed` meets its contract: a window that starts above or left is skipped, any other is read and its colours found.
+-- Assumes nothing.
 use Prim.Native.Nat.{_+_, _-_, _*_, _/_, _%_}
 use mathlib.Core.Path.{_∙_}
 use Rattle.rules.specs.Grid.{flat}

@@ -1,4 +1,4 @@
--- `windows::one_if` meets its contract. Assumes nothing.
+-- `windows::one_if` meets its contract: both cases of the test, by evaluation. Assumes nothing.
 use Rattle.base.proofs.Bools.{by-test}
 use borrow.Author.Needs.{needs}
 use Rattle.windows.proofs.one_if.Statement.{statement}

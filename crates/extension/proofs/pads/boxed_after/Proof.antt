@@ -5,7 +5,8 @@ use Prim.Native.Nat.{ℕ, _-_}
 use mathlib.Core.Path.{_∙_, ap}
 use Rattle.base.specs.Whole.{clip}
 use Rattle.rules.specs.Places.{boxedAfter}
-use Rattle.places.proofs.Wide.{widened, cast-fits, add-fits, sub-fits, added, subbed}
+use Rattle.base.proofs.Signs.{add-fits, sub-fits, added, subbed}
+use Rattle.places.proofs.Wide.{widened, cast-fits}
 use Rattle.extension.proofs.Edges.{zero-is, one-is, side-is, pad-is, first-is, last-is}
 use Rattle.extension.proofs.pads.boxed_after.Statement.{statement}
 use Rattle.extension.proofs.pads.boxed_after.Tie as tie

@@ -5,7 +5,8 @@ use Prim.Native.Nat.{ℕ, _-_}
 use mathlib.Core.Path.{_∙_, ap}
 use Rattle.base.specs.Whole.{clip}
 use Rattle.rules.specs.Places.{boxedBefore}
-use Rattle.places.proofs.Wide.{widened, cast-fits, sub-fits, subbed}
+use Rattle.base.proofs.Signs.{sub-fits, subbed}
+use Rattle.places.proofs.Wide.{widened, cast-fits}
 use Rattle.extension.proofs.Edges.{zero-is, pad-is, first-is}
 use Rattle.extension.proofs.pads.boxed_before.Statement.{statement}
 use Rattle.extension.proofs.pads.boxed_before.Tie as tie

@@ -10,7 +10,7 @@ use mir.Val.{ofZ}
 use Rattle.rules.specs.Places.{extensionBy}
 use Rattle.rules.specs.declared.Pads.{Pads}
 use Rattle.rules.specs.declared.ExtensionInfo.{ExtensionInfo}
-use Rattle.places.proofs.Wide.{Reads, given, counted, add-fits, added}
+use Rattle.base.proofs.Signs.{Reads, given, counted, add-fits, added}
 use Rattle.places.proofs.Indices.{offset-low}
 use Rattle.extension.proofs.pads.extension_by.Statement.{statement}
 use Rattle.extension.proofs.pads.extension_by.Tie as tie

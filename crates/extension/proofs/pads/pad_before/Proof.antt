@@ -4,7 +4,8 @@ use borrow.Author.Needs.{needs}
 use mathlib.Core.Path.{_∙_, ap}
 use Rattle.base.specs.Whole.{clip}
 use Rattle.rules.specs.Places.{padBefore}
-use Rattle.places.proofs.Wide.{widened, cast-fits, sub-fits, subbed}
+use Rattle.base.proofs.Signs.{sub-fits, subbed}
+use Rattle.places.proofs.Wide.{widened, cast-fits}
 use Rattle.extension.proofs.Edges.{zero-is, reach-is, first-is}
 use Rattle.extension.proofs.pads.pad_before.Statement.{statement}
 use Rattle.extension.proofs.pads.pad_before.Tie as tie

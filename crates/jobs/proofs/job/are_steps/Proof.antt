@@ -1,4 +1,4 @@
--- `words::job::are_steps` meets its contract. The loop's invariant: what is left is whole exactly if all of it is. Assumes nothing.
+-- `jobs::job::are_steps` meets its contract. The loop's invariant: what is left is whole exactly if all of it is. Assumes nothing.
 use mathlib.Core.Path.{_≡_, _∙_, ap}
 use native.Mathlib.Omega.{arith}
 use Prim.Native.Nat.{_-_}

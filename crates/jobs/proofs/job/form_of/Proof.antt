@@ -1,4 +1,4 @@
--- `words::job::form_of` meets its contract. Assumes nothing.
+-- `jobs::job::form_of` meets its contract: numbers of the form make their set-up, any others the bad form. Assumes nothing.
 use mathlib.Core.Path.{sym, _∙_}
 use Rattle.jobs.proofs.Forming.{formed-head, form-is, form-bad}
 use borrow.Author.Needs.{needs}

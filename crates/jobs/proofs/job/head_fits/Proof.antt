@@ -1,4 +1,4 @@
--- `words::job::head_fits` meets its contract. Assumes nothing.
+-- `jobs::job::head_fits` meets its contract: each test is asked only where the one before it passed. Assumes nothing.
 use mathlib.Core.Path.{ap}
 use borrow.Author.Tests.{le-leb, lt-leb}
 use Prim.Native.Nat.{ℕ}

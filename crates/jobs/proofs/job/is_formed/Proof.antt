@@ -1,4 +1,5 @@
--- `words::job::is_formed` meets its contract. Assumes nothing.
+-- `jobs::job::is_formed` meets its contract: the tail is asked only where the head fits, which keeps the sample's cells few.
+-- Assumes nothing.
 use mathlib.Core.Path.{sym, _∙_, ap}
 use native.Mathlib.Omega.{arith}
 use Rattle.jobs.specs.Form.{isFormed, tailFits}

@@ -1,4 +1,4 @@
--- `words::job::number` meets its contract. Assumes nothing.
+-- `jobs::job::number` meets its contract: the number at k, and past the last one the list's default. Assumes nothing.
 use mathlib.Core.Path.{sym}
 use lib.ListN.{List·getD-eq-default}
 use borrow.Author.Needs.{needs}

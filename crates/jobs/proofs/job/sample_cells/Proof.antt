@@ -1,4 +1,4 @@
--- `words::job::sample_cells` meets its contract. Assumes nothing.
+-- `jobs::job::sample_cells` meets its contract: two sides that the head keeps in bounds, so that their product fits. Assumes nothing.
 use mathlib.Core.Path.{_∙_}
 use native.Mathlib.Omega.{arith}
 use Rattle.jobs.proofs.Forming.{few-cells, cells-are}

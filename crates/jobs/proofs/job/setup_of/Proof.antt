@@ -1,4 +1,4 @@
--- `words::job::setup_of` meets its contract. Assumes nothing.
+-- `jobs::job::setup_of` meets its contract: each number is read at the definition's place, behind the sample's few cells. Assumes nothing.
 use native.Mathlib.Omega.{arith}
 use Rattle.jobs.proofs.Forming.{few-cells, setup-is, sides-of}
 use borrow.Author.Needs.{needs}

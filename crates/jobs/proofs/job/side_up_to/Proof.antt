@@ -1,4 +1,4 @@
--- `words::job::side_up_to` meets its contract. Assumes nothing.
+-- `jobs::job::side_up_to` meets its contract: the upper end is asked only where the lower one holds. Assumes nothing.
 use mathlib.Core.Path.{refl}
 use borrow.Author.Tests.{le-leb, lt-leb}
 use Rattle.base.specs.Counting.{within}

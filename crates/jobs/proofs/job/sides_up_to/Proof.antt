@@ -1,4 +1,4 @@
--- `words::job::sides_up_to` meets its contract. Assumes nothing.
+-- `jobs::job::sides_up_to` meets its contract: the columns are asked only where the rows are in bounds. Assumes nothing.
 use mathlib.Core.Path.{sym, _∙_}
 use Rattle.jobs.specs.Form.{sidesUpTo}
 use Rattle.base.proofs.Bools.{and-go, and-stop}

@@ -1,4 +1,4 @@
--- `words::job::step_end` meets its contract, exit by exit. Assumes nothing.
+-- `jobs::job::step_end` meets its contract, exit by exit. Assumes nothing.
 use Rattle.jobs.proofs.Forming.{end-lay, end-lift, end-other}
 use borrow.Author.Needs.{needs}
 use Rattle.jobs.proofs.job.step_end.Statement.{statement}

@@ -1,4 +1,4 @@
--- `words::job::tail_fits` meets its contract. Assumes nothing.
+-- `jobs::job::tail_fits` meets its contract: each test is asked only where the one before it passed. Assumes nothing.
 use borrow.Author.Tests.{le-leb, lt-leb}
 use Rattle.jobs.specs.Form.{tailFits}
 use Rattle.base.proofs.Bools.{and-go, and-stop}

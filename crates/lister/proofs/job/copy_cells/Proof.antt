@@ -1,4 +1,5 @@
--- `lister::job::copy_cells` meets its contract. The loop's invariant: the cells passed hold their numbers, the others what they held. Assumes nothing.
+-- `lister::job::copy_cells` meets its contract. The loop's invariant: the cells passed hold their numbers, the others what they held.
+-- Assumes nothing.
 use mathlib.Core.Path.{_≡_, _∙_}
 use native.Mathlib.Omega.{arith}
 use Prim.Native.Nat.{_-_, _≤_}

@@ -1,4 +1,4 @@
--- `lister::job::list_job` meets its contract. Assumes nothing.
+-- `lister::job::list_job` meets its contract: a sample has 256 cells at the most, so the store holds them. Assumes nothing.
 use mathlib.Core.Path.{sym}
 use native.Mathlib.Omega.{arith}
 use lib.ListN.{length-take}

@@ -1,4 +1,4 @@
--- `lister::job::list_sample` meets its contract. Assumes nothing.
+-- `lister::job::list_sample` meets its contract: the tiles extracted are run on, or the extraction's refusal is written. Assumes nothing.
 use mathlib.Core.Path.{sym, _∙_, ap}
 use native.Mathlib.Omega.{arith}
 use Prim.Native.Nat.{ℕ}

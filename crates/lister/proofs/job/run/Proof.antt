@@ -1,4 +1,4 @@
--- `lister::job::run` meets its contract. Assumes nothing.
+-- `lister::job::run` meets its contract: a fresh board, the steps on it, and the end, by `ran-fresh`. Assumes nothing.
 use Rattle.lister.proofs.Telling.{ran-fresh}
 use Rattle.ending.specs.Ending.{jobWith}
 use borrow.Author.Needs.{needs}

@@ -1,4 +1,4 @@
--- `lister::job::run_on_planes` meets its contract. Assumes nothing.
+-- `lister::job::run_on_planes` meets its contract: a board has 1,024 cells at the most, so each plane holds them. Assumes nothing.
 use mathlib.Core.Path.{sym}
 use native.Mathlib.Omega.{arith}
 use lib.ListN.{length-take}

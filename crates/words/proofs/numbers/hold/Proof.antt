@@ -1,4 +1,4 @@
--- `words::numbers::hold` meets its contract. Assumes nothing.
+-- `words::numbers::hold` meets its contract: inside a number it is stored at its entry, in the other states nothing is. Assumes nothing.
 use mathlib.Core.Path.{sym, ap}
 use native.Mathlib.Omega.{arith}
 use Rattle.words.specs.declared.State.{State}

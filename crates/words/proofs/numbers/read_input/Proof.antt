@@ -1,4 +1,4 @@
--- `words::numbers::read_input` meets its contract. Assumes nothing.
+-- `words::numbers::read_input` meets its contract: a longer input is bad, any other is what the parse makes of it. Assumes nothing.
 use mathlib.Core.Path.{refl}
 use Rattle.words.proofs.Reading.{input-long, input-short}
 use borrow.Author.Needs.{needs}
