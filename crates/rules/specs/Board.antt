@@ -17,7 +17,7 @@ use Rattle.rules.specs.declared.Offset.{Offset}
 use Rattle.rules.specs.declared.LayAnswer.{LayAnswer}
 use Rattle.rules.specs.declared.LiftAnswer.{LiftAnswer}
 
--- what stays fixed while a board is in use
+-- what a call is told beside the planes, its place and a colour
 pub record Job : Type 0 where
   pub rows : ℕ
   pub cols : ℕ
