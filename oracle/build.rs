@@ -29,13 +29,14 @@ const PORT: [&str; 4] = ["harness", "harness_floats", "harness_forced", "harness
 
 fn main() {
     println!("cargo::rerun-if-env-changed=GREEDYTILE_TEXT");
-    println!("cargo::rerun-if-changed=build.rs");
     let out = PathBuf::from(env::var_os("OUT_DIR").unwrap());
     let uncached = env::var_os("CARGO_FEATURE_UNCACHED").is_some();
     let mut here = PathBuf::from(env::var_os("CARGO_MANIFEST_DIR").unwrap());
     if uncached {
         here.pop();
     }
+    // a whole path: from the folder of `uncached` it would not be found, and that package built anew each time
+    println!("cargo::rerun-if-changed={}", here.join("build.rs").display());
     let Some(text) = env::var_os("GREEDYTILE_TEXT").map(|text| here.join(text)) else {
         stop("GREEDYTILE_TEXT is not set: it names the folder below which src/algorithm/bitset.rs.txt etc. lie");
     };
