@@ -24,8 +24,8 @@ const FILES: [(&str, &str, Option<&str>); 10] = [
     ("algorithm", "deadlock", Some("deadlock")),
 ];
 
-/// The crates of the port that export its calls for tests.
-const PORT: [&str; 4] = ["harness", "harness_floats", "harness_forced", "harness_tiles"];
+/// The crates of the port that export calls: the desk's three functions, and the others for tests.
+const PORT: [&str; 5] = ["desk", "harness", "harness_floats", "harness_forced", "harness_tiles"];
 
 fn main() {
     println!("cargo::rerun-if-env-changed=GREEDYTILE_TEXT");
@@ -92,7 +92,7 @@ fn bring(text: &Path, out: &Path, group: &str, name: &str, reach: Option<&Path>,
     target
 }
 
-/// GREEDYTILE_PORT names the folder that has the port's static libraries for tests, libharness*.a.
+/// GREEDYTILE_PORT names the folder that has the port's static libraries, libdesk.a and libharness*.a.
 fn link_port(here: &Path) {
     println!("cargo::rerun-if-env-changed=GREEDYTILE_PORT");
     let Some(folder) = env::var_os("GREEDYTILE_PORT").map(|folder| here.join(folder)) else {
