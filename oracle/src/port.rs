@@ -533,7 +533,7 @@ impl<const N: usize, const TWICE: usize> Flat<N, TWICE> {
     fn new(entries: &[ForcedPosition; N], len: usize) -> Self {
         let coordinate = |at: usize| {
             let World(row, col) = entries[at / 2].coordinates;
-            if at % 2 == 0 { row } else { col }
+            if at.is_multiple_of(2) { row } else { col }
         };
         Self {
             coordinates: Out::with(std::array::from_fn(coordinate)),
