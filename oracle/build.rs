@@ -24,18 +24,19 @@ const FILES: [(&str, &str, Option<&str>); 10] = [
     ("algorithm", "deadlock", Some("deadlock")),
 ];
 
-/// The crates of the port that export its calls for tests.
-const PORT: [&str; 4] = ["harness", "harness_floats", "harness_forced", "harness_tiles"];
+/// The crates of the port that export calls: the desk's three functions, and the others for tests.
+const PORT: [&str; 5] = ["desk", "harness", "harness_floats", "harness_forced", "harness_tiles"];
 
 fn main() {
     println!("cargo::rerun-if-env-changed=GREEDYTILE_TEXT");
-    println!("cargo::rerun-if-changed=build.rs");
     let out = PathBuf::from(env::var_os("OUT_DIR").unwrap());
     let uncached = env::var_os("CARGO_FEATURE_UNCACHED").is_some();
     let mut here = PathBuf::from(env::var_os("CARGO_MANIFEST_DIR").unwrap());
     if uncached {
         here.pop();
     }
+    // a whole path: from the folder of `uncached` it would not be found, and that package built anew each time
+    println!("cargo::rerun-if-changed={}", here.join("build.rs").display());
     let Some(text) = env::var_os("GREEDYTILE_TEXT").map(|text| here.join(text)) else {
         stop("GREEDYTILE_TEXT is not set: it names the folder below which src/algorithm/bitset.rs.txt etc. lie");
     };
@@ -91,7 +92,7 @@ fn bring(text: &Path, out: &Path, group: &str, name: &str, reach: Option<&Path>,
     target
 }
 
-/// GREEDYTILE_PORT names the folder that has the port's static libraries for tests, libharness*.a.
+/// GREEDYTILE_PORT names the folder that has the port's static libraries, libdesk.a and libharness*.a.
 fn link_port(here: &Path) {
     println!("cargo::rerun-if-env-changed=GREEDYTILE_PORT");
     let Some(folder) = env::var_os("GREEDYTILE_PORT").map(|folder| here.join(folder)) else {

@@ -88,14 +88,8 @@ fn options() -> Result<Options, String> {
 }
 
 fn main() -> ExitCode {
-    let chosen = options().and_then(|options| {
-        let steps: Vec<Named> = compare::all()
-            .into_iter()
-            .filter(|step| options.steps.is_empty() || options.steps.iter().any(|name| name == step.name))
-            .collect();
-        if steps.is_empty() { Err("no such step; --list names them".into()) } else { Ok((options, steps)) }
-    });
-    let (options, steps) = match chosen {
+    let chosen = options().and_then(|options| Ok((choose(&options.steps)?, options)));
+    let (steps, options) = match chosen {
         Ok(chosen) => chosen,
         Err(why) => {
             eprintln!("{why}");
@@ -129,6 +123,16 @@ fn main() -> ExitCode {
     if fine { ExitCode::SUCCESS } else { ExitCode::FAILURE }
 }
 
+/// The steps of these names, or all where there are none. A name of no step is an error and not a run without it.
+fn choose(names: &[String]) -> Result<Vec<Named>, String> {
+    let mut steps = compare::all();
+    if let Some(unknown) = names.iter().find(|name| steps.iter().all(|step| step.name != name.as_str())) {
+        return Err(format!("no such step: {unknown}; --list names them"));
+    }
+    steps.retain(|step| names.is_empty() || names.iter().any(|name| name == step.name));
+    Ok(steps)
+}
+
 const MODEL: &str =
     "built without the port: src/model.rs stands in its place, so this tries the driver and says nothing of the port";
 
@@ -160,11 +164,16 @@ fn compare_all(steps: &[Named], plan: &Plan) -> bool {
     println!();
     println!("| step | small inputs | random | spoilt | refused, by number | values | differences | seconds |");
     println!("|---|---:|---:|---:|---|---:|---:|---:|");
+    let tallies: Vec<Tally> = steps
+        .iter()
+        .map(|step| {
+            let tally = (step.run)(plan);
+            row(&tally);
+            tally
+        })
+        .collect();
     let mut all = Tally { name: "all", ..Tally::default() };
-    let mut reports = Vec::new();
-    for step in steps {
-        let tally = (step.run)(plan);
-        row(&tally);
+    for tally in &tallies {
         all.small += tally.small;
         all.random += tally.random;
         all.spoilt += tally.spoilt;
@@ -172,13 +181,24 @@ fn compare_all(steps: &[Named], plan: &Plan) -> bool {
         all.differences += tally.differences;
         all.seconds += tally.seconds;
         (0..11).for_each(|number| all.refused[number] += tally.refused[number]);
-        reports.extend(tally.report);
     }
     row(&all);
     println!();
     println!("{} answers and {} values compared, {} differences", all.answers(), all.values, all.differences);
-    reports.iter().for_each(|report| println!("\n{report}"));
-    all.differences == 0
+    tallies.iter().filter_map(|tally| tally.report.as_ref()).for_each(|report| println!("\n{report}"));
+
+    // a run that leaves out what it is there to compare has not passed
+    let mut left_out: Vec<String> = tallies
+        .iter()
+        .filter(|tally| tally.answers() == 0)
+        .map(|tally| format!("{}: no answer was compared", tally.name))
+        .collect();
+    if plan.faults && steps.len() == compare::all().len() {
+        let never = (1..=10).filter(|&number| all.refused[number] == 0);
+        left_out.extend(never.map(|number| format!("refusal {number} never arose")));
+    }
+    left_out.iter().for_each(|what| println!("\nthe run fails: {what}"));
+    all.differences == 0 && left_out.is_empty()
 }
 
 fn row(tally: &Tally) {
@@ -283,6 +303,43 @@ mod tests {
         for (name, step, meddle) in meddles(&steps) {
             let plan = Plan { first_only: true, inputs: 300, ..with_meddle(&PLAN, meddle) };
             assert!((step.run)(&plan).differences > 0, "{name} is not seen");
+        }
+    }
+
+    /// The step whose random inputs must tell an error that tempts.
+    fn told_by(slip: model::Slip) -> &'static str {
+        use model::Slip::*;
+        match slip {
+            SkipBottomWindows | SkipRightWindows | KeepTopWindows | OneTileForAllWindows => "listing",
+            OwnPieceIgnored | ZeroListsAColour => "listing",
+            CentredBlock | BlockNotBeyond => "product",
+            ZeroFactorDivides => "quotient",
+            CountPastTheEdge | RecountTooNear => "recount",
+            WeightTwoAway => "weights-up",
+            LiftWraps => "weights-down",
+            PadsSwapped => "extension",
+            BoxUsesExcessOnce => "boxed-extension",
+            SpanEndUnclipped => "spans",
+            ReflectionsFirst | LaterOfEqualTiles => "extract",
+            QueueTakesColourToo => "queue-add",
+            ForcedTakesLaid => "forced",
+            ScanTakesAnyWeight | ScanColumnFirst => "scan",
+            LayScoreAtTarget => "lay-score",
+            LiftScoreCentred | LiftScoreUnsquared | SumByColumns => "lift-score",
+            NormaliseBySumOnly | InfiniteLargestDivides => "normalise",
+        }
+    }
+
+    /// Document 01's three are the windows skipped at the bottom, one tile for all nine windows, and the centred block.
+    #[test]
+    fn every_error_that_tempts_is_seen() {
+        let steps = compare::all();
+        for slip in model::Slip::ALL {
+            let step = steps.iter().find(|step| step.name == told_by(slip)).unwrap();
+            model::set_slip(Some(slip));
+            let seen = (step.run)(&Plan { first_only: true, inputs: 100, ..PLAN }).differences > 0;
+            model::set_slip(None);
+            assert!(seen, "{slip:?} is not seen by {}", step.name);
         }
     }
 

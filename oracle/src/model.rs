@@ -416,6 +416,18 @@ pub fn listing(
     })
 }
 
+pub fn fitting_colours(
+    pieces: &[u32],
+    rows: usize,
+    cols: usize,
+    tiles: &[u8],
+    count: u32,
+    world: World,
+    offset: Offset,
+) -> Answer<u64> {
+    listing(pieces, rows, cols, tiles, count, world, offset).map(|set| u64::from(set.bits))
+}
+
 pub fn forced(
     pieces: &[u32],
     rows: usize,

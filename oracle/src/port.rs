@@ -2,7 +2,8 @@
 //!
 //! The boundary is numbers and slices. A slice goes over as a pointer and its number of elements. Each exported function
 //! answers 0 or a refusal's number; what it finds goes into lent slices of exactly the length named here, which a refused
-//! call leaves as they were. Nothing checks these declarations against the port's source but the runs themselves.
+//! call leaves as they were. Fitting colours, lay and lift are the desk's own functions, the others are exported for
+//! tests. Nothing checks these declarations against the port's source but the runs themselves.
 
 use crate::calls::*;
 use crate::outcome::Guarded;
@@ -125,15 +126,21 @@ unsafe extern "C" {
         pieces: *mut u32, pieces_len: usize, weights: *mut u32, weights_len: usize, counts: *mut u32, counts_len: usize,
         rows: usize, cols: usize, number: usize,
     ) -> u32;
-    fn port_lay(
-        pieces: *mut u32, pieces_len: usize, weights: *mut u32, weights_len: usize, counts: *mut u32, counts_len: usize,
-        rows: usize, cols: usize, tiles: *const u8, tiles_len: usize, count: u32, row: i32, col: i32, offset_row: i32,
-        offset_col: i32, colour: u32,
+
+    // the desk's own functions, as include/desk.h has them; found: the set in the first word, further words are left alone
+    fn desk_fitting_colours(
+        pieces: *const u32, pieces_len: usize, rows: usize, cols: usize, tiles: *const u8, tiles_len: usize, count: u32,
+        row: i32, col: i32, down: i32, across: i32, found: *mut u64, found_len: usize,
     ) -> u32;
-    fn port_lift(
+    fn desk_lay(
         pieces: *mut u32, pieces_len: usize, weights: *mut u32, weights_len: usize, counts: *mut u32, counts_len: usize,
-        rows: usize, cols: usize, tiles: *const u8, tiles_len: usize, count: u32, row: i32, col: i32, offset_row: i32,
-        offset_col: i32,
+        rows: usize, cols: usize, tiles: *const u8, tiles_len: usize, count: u32, row: i32, col: i32, down: i32,
+        across: i32, colour: u32,
+    ) -> u32;
+    fn desk_lift(
+        pieces: *mut u32, pieces_len: usize, weights: *mut u32, weights_len: usize, counts: *mut u32, counts_len: usize,
+        rows: usize, cols: usize, tiles: *const u8, tiles_len: usize, count: u32, row: i32, col: i32, down: i32,
+        across: i32,
     ) -> u32;
 
     fn port_normalise(
@@ -457,6 +464,31 @@ pub fn listing(
     answer(refused, set(out))
 }
 
+/// The desk's listing. Three words are lent, and then none: the first alone may be written, and the answer is the same.
+pub fn fitting_colours(
+    pieces: &[u32],
+    rows: usize,
+    cols: usize,
+    tiles: &[u8],
+    count: u32,
+    world: World,
+    offset: Offset,
+) -> Answer<u64> {
+    let ask = |found: *mut u64, found_len: usize| unsafe {
+        desk_fitting_colours(
+            pieces.as_ptr(), pieces.len(), rows, cols, tiles.as_ptr(), tiles.len(), count, world.0, world.1, offset.0,
+            offset.1, found, found_len,
+        )
+    };
+    let (mut found, mut nothing) = (Out::<u64, 3>::new(), Out::<u64, 0>::new());
+    let refused = ask(found.ptr(), found.len());
+    assert_eq!(ask(nothing.ptr(), nothing.len()), refused, "with no word lent the answer is another");
+    nothing.cells();
+    let [colours, others @ ..] = found.answered(refused);
+    assert!(others.iter().all(|word| word.same(u64::GUARD)), "a listing wrote past its first word");
+    answer(refused, colours)
+}
+
 pub fn forced(
     pieces: &[u32],
     rows: usize,
@@ -501,7 +533,7 @@ impl<const N: usize, const TWICE: usize> Flat<N, TWICE> {
     fn new(entries: &[ForcedPosition; N], len: usize) -> Self {
         let coordinate = |at: usize| {
             let World(row, col) = entries[at / 2].coordinates;
-            if at % 2 == 0 { row } else { col }
+            if at.is_multiple_of(2) { row } else { col }
         };
         Self {
             coordinates: Out::with(std::array::from_fn(coordinate)),
@@ -668,7 +700,7 @@ pub fn lay(
     colour: u32,
 ) -> Answer<()> {
     let refused = unsafe {
-        port_lay(
+        desk_lay(
             pieces.as_mut_ptr(), pieces.len(), weights.as_mut_ptr(), weights.len(), counts.as_mut_ptr(), counts.len(),
             rows, cols, tiles.as_ptr(), tiles.len(), count, world.0, world.1, offset.0, offset.1, colour,
         )
@@ -688,7 +720,7 @@ pub fn lift(
     offset: Offset,
 ) -> Answer<()> {
     let refused = unsafe {
-        port_lift(
+        desk_lift(
             pieces.as_mut_ptr(), pieces.len(), weights.as_mut_ptr(), weights.len(), counts.as_mut_ptr(), counts.len(),
             rows, cols, tiles.as_ptr(), tiles.len(), count, world.0, world.1, offset.0, offset.1,
         )

@@ -1,18 +1,16 @@
 // The calls of the port for tests in another language: each hands its call the numbers and slices that it is given and tells its answer
-// as crate boundary does.
+// as crate boundary does. Lay and lift are not among them: tests call the desk's.
 ghost use Rattle.base.specs.Refusal.{Gives, refusal};
-ghost use Rattle.rules.specs.Answers.{writtenAnswer, layAnswer, liftAnswer};
+ghost use Rattle.rules.specs.Answers.{writtenAnswer};
 ghost use Rattle.rules.specs.Fit.{listing, regionCount};
 ghost use Rattle.rules.specs.Forced.{deadEnd};
-ghost use Rattle.rules.specs.Board.{freshChecks, afterFresh, layChecks, afterLay, liftChecks, afterLift, weightChecks, afterRaise, afterLower, recountChecks, afterRecount};
+ghost use Rattle.rules.specs.Board.{freshChecks, afterFresh, weightChecks, afterRaise, afterLower, recountChecks, afterRecount};
 ghost use Rattle.rules.specs.Places.{regionSpans};
 ghost use Rattle.rules.specs.Scores.{fractionAt};
 ghost use Rattle.rules.specs.Sets.{emptySet, fullSet, inserted, contained, intersected, emptiness, membersCounted};
-ghost use Rattle.planes.specs.Planes.{board, job};
+ghost use Rattle.planes.specs.Planes.{board};
 ghost use Rattle.slots.specs.Slots.{world, offsetBy, cellAt, setFrom};
-ghost use Rattle.boundary.specs.Boundary.{setNumber, setLeft, verdictNumber, verdictLeft, countNumber, countLeft, fractionNumber, fractionLeft, spanNumber, spanLeft, writtenNumber, layNumber, liftNumber, listingNumber, listingLeft, deadEndNumber, deadEndLeft};
-use boundary::laid;
-use boundary::lifted;
+ghost use Rattle.boundary.specs.Boundary.{setNumber, setLeft, verdictNumber, verdictLeft, countNumber, countLeft, fractionNumber, fractionLeft, spanNumber, spanLeft, writtenNumber, listingNumber, listingLeft, deadEndNumber, deadEndLeft};
 use boundary::listed;
 use boundary::set_given;
 use boundary::told;
@@ -84,72 +82,6 @@ pub extern "C" fn port_fresh(
 {
     let answer = planes::fresh(pieces, weights, counts, rows, cols, tiles);
     written(answer)
-}
-
-#[no_mangle]
-pub extern "C" fn port_lay(
-    pieces: &mut [u32],
-    weights: &mut [u32],
-    counts: &mut [u32],
-    rows: usize,
-    cols: usize,
-    tiles: &[u8],
-    count: u32,
-    row: i32,
-    col: i32,
-    down: i32,
-    across: i32,
-    colour: u32,
-) -> u32
-    ensures { λ r. ⌜ Gives (layNumber (layAnswer (refusal (layChecks (job rows cols count (now (tiles .entry)) (offsetBy down across)) (board (now (pieces .entry)) (now (weights .entry)) (now (counts .entry))) (world row col) colour)))) (afterLay (job rows cols count (now (tiles .entry)) (offsetBy down across)) (board (now (pieces .entry)) (now (weights .entry)) (now (counts .entry))) (world row col) colour) r (board (now (pieces .exit)) (now (weights .exit)) (now (counts .exit))) ⌝ }
-{
-    let position = world_at(row, col);
-    let offset = offset_at(down, across);
-    let answer = board::lay(
-        pieces,
-        weights,
-        counts,
-        rows,
-        cols,
-        tiles,
-        count,
-        position,
-        offset,
-        colour,
-    );
-    laid(answer)
-}
-
-#[no_mangle]
-pub extern "C" fn port_lift(
-    pieces: &mut [u32],
-    weights: &mut [u32],
-    counts: &mut [u32],
-    rows: usize,
-    cols: usize,
-    tiles: &[u8],
-    count: u32,
-    row: i32,
-    col: i32,
-    down: i32,
-    across: i32,
-) -> u32
-    ensures { λ r. ⌜ Gives (liftNumber (liftAnswer (refusal (liftChecks (job rows cols count (now (tiles .entry)) (offsetBy down across)) (board (now (pieces .entry)) (now (weights .entry)) (now (counts .entry))) (world row col))))) (afterLift (job rows cols count (now (tiles .entry)) (offsetBy down across)) (board (now (pieces .entry)) (now (weights .entry)) (now (counts .entry))) (world row col)) r (board (now (pieces .exit)) (now (weights .exit)) (now (counts .exit))) ⌝ }
-{
-    let position = world_at(row, col);
-    let offset = offset_at(down, across);
-    let answer = board::lift(
-        pieces,
-        weights,
-        counts,
-        rows,
-        cols,
-        tiles,
-        count,
-        position,
-        offset,
-    );
-    lifted(answer)
 }
 
 #[no_mangle]

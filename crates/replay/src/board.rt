@@ -161,63 +161,6 @@ fn fresh(words: &[u64], marks: &[u64]) -> bool {
         && words_are(words, marks, 9, counts)
 }
 
-fn lay(words: &[u64], marks: &[u64]) -> bool {
-    let mut pieceroom = [0u32; ROOM];
-    let pieces = words_in(words, marks, 0, &mut pieceroom);
-    let mut weightroom = [0u32; ROOM];
-    let weights = words_in(words, marks, 1, &mut weightroom);
-    let mut countroom = [0u32; ROOM];
-    let counts = words_in(words, marks, 2, &mut countroom);
-    let mut tileroom = [0u8; ROOM];
-    let tiles = bytes_in(words, marks, 5, &mut tileroom);
-    let number = harness::port_lay(
-        pieces,
-        weights,
-        counts,
-        size(words, marks, 3),
-        size(words, marks, 4),
-        tiles,
-        word(words, marks, 6),
-        signed(words, marks, 7),
-        signed(words, marks, 8),
-        signed(words, marks, 9),
-        signed(words, marks, 10),
-        word(words, marks, 11),
-    );
-    told(words, marks, 12, number)
-        && words_are(words, marks, 13, pieces)
-        && words_are(words, marks, 14, weights)
-        && words_are(words, marks, 15, counts)
-}
-
-fn lift(words: &[u64], marks: &[u64]) -> bool {
-    let mut pieceroom = [0u32; ROOM];
-    let pieces = words_in(words, marks, 0, &mut pieceroom);
-    let mut weightroom = [0u32; ROOM];
-    let weights = words_in(words, marks, 1, &mut weightroom);
-    let mut countroom = [0u32; ROOM];
-    let counts = words_in(words, marks, 2, &mut countroom);
-    let mut tileroom = [0u8; ROOM];
-    let tiles = bytes_in(words, marks, 5, &mut tileroom);
-    let number = harness::port_lift(
-        pieces,
-        weights,
-        counts,
-        size(words, marks, 3),
-        size(words, marks, 4),
-        tiles,
-        word(words, marks, 6),
-        signed(words, marks, 7),
-        signed(words, marks, 8),
-        signed(words, marks, 9),
-        signed(words, marks, 10),
-    );
-    told(words, marks, 11, number)
-        && words_are(words, marks, 12, pieces)
-        && words_are(words, marks, 13, weights)
-        && words_are(words, marks, 14, counts)
-}
-
 // Whether a step of this family answers as recorded.
 pub fn answers(step: usize, words: &[u64], marks: &[u64]) -> bool {
     match step {
@@ -228,8 +171,6 @@ pub fn answers(step: usize, words: &[u64], marks: &[u64]) -> bool {
         4 => raise(words, marks),
         5 => lower(words, marks),
         6 => recount(words, marks),
-        7 => fresh(words, marks),
-        8 => lay(words, marks),
-        _ => lift(words, marks),
+        _ => fresh(words, marks),
     }
 }

@@ -3,6 +3,7 @@
 mod board;
 mod floats;
 mod forced;
+mod laying;
 mod list;
 mod places;
 mod sets;
@@ -21,6 +22,7 @@ fn answers(step: usize, words: &[u64], marks: &[u64]) -> bool {
         2 => sets::answers(one, words, marks),
         3 => board::answers(one, words, marks),
         4 => forced::answers(one, words, marks),
+        5 => laying::answers(one, words, marks),
         _ => floats::answers(one, words, marks),
     }
 }
@@ -136,8 +138,12 @@ fn replay_board() {
     replay(35, b"weights-down");
     replay(36, b"recount");
     replay(37, b"fresh");
-    replay(38, b"lay");
-    replay(39, b"lift");
+}
+
+fn replay_desk() {
+    replay(50, b"fitting-colours");
+    replay(51, b"lay");
+    replay(52, b"lift");
 }
 
 fn replay_forced() {
@@ -150,11 +156,11 @@ fn replay_forced() {
 }
 
 fn replay_floats() {
-    replay(50, b"normalise");
-    replay(51, b"product");
-    replay(52, b"quotient");
-    replay(53, b"lay-score");
-    replay(54, b"lift-score");
+    replay(60, b"normalise");
+    replay(61, b"product");
+    replay(62, b"quotient");
+    replay(63, b"lay-score");
+    replay(64, b"lift-score");
 }
 
 fn main() {
@@ -162,6 +168,7 @@ fn main() {
     replay_tiles();
     replay_sets();
     replay_board();
+    replay_desk();
     replay_forced();
     replay_floats();
 }

@@ -1,4 +1,5 @@
-//! Fit counts, fractions, listing, forced neighbours, scan; weights, recount, fresh, lay, lift; the two scores.
+//! Fit counts, fractions, listing, forced neighbours, scan; weights, recount, fresh; the desk's fitting colours, lay and
+//! lift; the two scores.
 
 use super::{Input, Shows};
 use crate::calls::*;
@@ -21,6 +22,7 @@ pub enum Step {
     Lower,
     Recount,
     Fresh,
+    FittingColours,
     Lay,
     Lift,
     LayScore,
@@ -154,7 +156,7 @@ impl BoardInput {
         match step {
             Step::RegionCount => refusals::region_count(pieces, rows, cols, bytes, count, cell),
             Step::Fraction => refusals::fraction(counts, rows, cols, number, cell),
-            Step::Listing | Step::Forced | Step::BoxedForced => {
+            Step::Listing | Step::FittingColours | Step::Forced | Step::BoxedForced => {
                 refusals::listing(pieces, rows, cols, bytes, count, world, offset, bounds)
             }
             Step::Scan => refusals::scan(pieces, weights, rows, cols, bytes, count),
@@ -180,7 +182,7 @@ impl BoardInput {
         match self.step {
             Step::RegionCount => (whole(self.tiles.job().region_count(&self.pieces, sides, cell)), Vec::new()),
             Step::Fraction => (vec![Value::Float(steps::fraction(&self.counts, sides, self.number, cell))], Vec::new()),
-            Step::Listing => {
+            Step::Listing | Step::FittingColours => {
                 let board = Board::with_pieces(&self.pieces, sides);
                 let mut job = self.tiles.job();
                 let listed = job.listing(&board, world, offset, Cache::New);
@@ -189,7 +191,11 @@ impl BoardInput {
                 let bare = self.tiles.uncached_job().listing(&board, world, offset, uncached::steps::Cache::New);
                 assert_eq!(listed, bare, "the cache or the index on demand changed a listing");
                 let bits = listed.iter().fold(0, |bits, colour| bits | 1i64 << (colour - 1));
-                (vec![Value::Whole(bits), Value::Whole(i64::from(self.tiles.count()))], Vec::new())
+                let mut answer = vec![Value::Whole(bits)];
+                if self.step == Step::Listing {
+                    answer.push(Value::Whole(i64::from(self.tiles.count())));
+                }
+                (answer, Vec::new())
             }
             Step::Forced | Step::BoxedForced => {
                 let bounds = self.bounds.map(|b| ([b.min.0, b.min.1], [b.max.0, b.max.1]));
@@ -285,6 +291,7 @@ impl Input for BoardInput {
         ("weights-down", 400, Step::Lower),
         ("recount", 400, Step::Recount),
         ("fresh", 100, Step::Fresh),
+        ("fitting-colours", 500, Step::FittingColours),
         ("lay", 500, Step::Lay),
         ("lift", 500, Step::Lift),
         ("lay-score", 400, Step::LayScore),
@@ -297,9 +304,13 @@ impl Input for BoardInput {
 
     fn shows(step: Step) -> Shows {
         match step {
-            Step::RegionCount | Step::Fraction | Step::Listing | Step::Forced | Step::BoxedForced | Step::Scan => {
-                Shows { answer: true, planes: false, refusals: true, lends: true, reads: true }
-            }
+            Step::RegionCount
+            | Step::Fraction
+            | Step::Listing
+            | Step::Forced
+            | Step::BoxedForced
+            | Step::Scan
+            | Step::FittingColours => Shows { answer: true, planes: false, refusals: true, lends: true, reads: true },
             _ => {
                 let reads = !matches!(step, Step::Raise | Step::Lower | Step::Fresh);
                 Shows { answer: false, planes: true, refusals: true, lends: true, reads }
@@ -374,9 +385,11 @@ impl Input for BoardInput {
         input
     }
 
-    /// All boards to 2x3 with two colours over several tile lists, and all 3x3 boards over two; every cell of each.
+    /// All boards to 2x3 with two colours over several tile lists, and but for the desk's steps all 3x3 boards over two;
+    /// every cell of each.
     fn small(step: Step, each: &mut dyn FnMut(Self)) {
-        if !matches!(step, Step::RegionCount | Step::Listing | Step::Forced | Step::Scan | Step::Lay | Step::Lift) {
+        let desk = matches!(step, Step::FittingColours | Step::Lay | Step::Lift);
+        if !desk && !matches!(step, Step::RegionCount | Step::Listing | Step::Forced | Step::Scan) {
             return;
         }
         let chequer = vec![1, 2, 1, 2, 1, 2, 1, 2, 1, 2, 1, 2, 1, 2, 1, 2, 1, 2];
@@ -430,7 +443,7 @@ impl Input for BoardInput {
                 all_boards(rows, cols, tiles, each);
             }
         }
-        if !matches!(step, Step::Lay | Step::Lift) {
+        if !desk {
             all_boards(3, 3, &lists[0], each);
             all_boards(3, 3, &lists[2], each);
         }
@@ -640,6 +653,10 @@ impl Input for BoardInput {
             Step::Fresh => {
                 done(side::fresh(pieces.cells_mut(), weights.cells_mut(), counts.cells_mut(), rows, cols, number))
             }
+            Step::FittingColours => {
+                side::fitting_colours(pieces.cells(), rows, cols, tiles.cells(), count, world, offset)
+                    .map(|colours| vec![Value::Whole(colours as i64)])
+            }
             Step::Lay => done(side::lay(
                 pieces.cells_mut(),
                 weights.cells_mut(),
@@ -691,7 +708,9 @@ impl Input for BoardInput {
         let Self { step, rows, cols, ref pieces, ref weights, ref counts, ref scores, number, .. } = *self;
         let Self { world, offset, cell, row_span, col_span, .. } = *self;
         let planes = match step {
-            Step::RegionCount | Step::Listing | Step::Forced | Step::BoxedForced => Parts::new().slice(pieces),
+            Step::RegionCount | Step::Listing | Step::Forced | Step::BoxedForced | Step::FittingColours => {
+                Parts::new().slice(pieces)
+            }
             Step::Fraction => Parts::new().slice(counts),
             Step::Scan => Parts::new().slice(pieces).slice(weights),
             Step::Raise | Step::Lower => Parts::new().slice(weights),

@@ -204,7 +204,8 @@ impl Input for SequenceInput {
         Self { rows, cols, offset, tiles: tiles.clone(), calls }
     }
 
-    /// Every run of three calls on a 1x3 board of the two-coloured chequer tiles: lays of colour 1 and lifts.
+    /// Every run of three calls on a 1x3 and on a 3x3 board with the two chequer tiles, where a call is a lay or a lift at
+    /// any cell. The colour laid goes with the cell: 1 and 2 by turns.
     fn small(_: (), each: &mut dyn FnMut(Self)) {
         let tiles = TileList::new(vec![1, 2, 1, 2, 1, 2, 1, 2, 1, 2, 1, 2, 1, 2, 1, 2, 1, 2], 2);
         for (rows, cols) in [(1, 3), (3, 3)] {
