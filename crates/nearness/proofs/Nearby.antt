@@ -5,7 +5,7 @@ use Prim.Native.Nat.{ℕ, _+_, _-_, _*_, _/_, _%_, _<_, _≤_, min, max}
 use mathlib.Core.Path.{_≡_, refl, sym, _∙_, ap, subst}
 use mathlib.Core.List.{List}
 use mathlib.Core.Logic.{⊎-elim}
-use native.Mathlib.Nat.{le-max-left, le-max-right, le-trans, le-of-lt, lt-of-lt-of-le, le-min, min-le-right, min-eq-left, min-eq-right, mul-le-mul-right}
+use native.Mathlib.Nat.{le-max-left, le-max-right, le-trans, le-of-lt, lt-of-lt-of-le, le-min, min-le-left, min-le-right, min-eq-left, min-eq-right, max-le, mul-le-mul-right}
 use native.Mathlib.Omega.{arith}
 use lib.ListN.{length, getD}
 use Rattle.base.specs.Tables.{tab}
@@ -14,7 +14,7 @@ use Rattle.base.proofs.Swept.{swept, swept-above}
 use Rattle.rules.specs.Grid.{gap}
 use Rattle.rules.specs.declared.Cell.{Cell}
 use Rattle.rules.specs.declared.Span.{Span}
-use Rattle.nearness.specs.Near.{OnPlane, InRow, Nearby}
+use Rattle.nearness.specs.Near.{OnPlane, InRow, Nearby, InReach}
 use Rattle.nearness.proofs.Spans.{Still, span-begin, row-begin, row-end, span-end}
 
 -- further than 2 along one side is further than 2
@@ -37,6 +37,7 @@ Far f cols cell = (l : List ℕ) (i : ℕ) → 2 < max (gap (cell .0) (i / cols)
 -- the loop over the rows: w₀ is the plane at the start, w the plane where the rows below `row` are done
 pub record RowsUpTo (f : List ℕ → ℕ → ℕ) (rows cols : ℕ) (cell : Cell) (w₀ w : List ℕ) (row : ℕ) : Type 0 where
   pub long : length w ≡ length w₀
+  pub low : cell .0 - 2 ≤ row
   pub high : row ≤ min (cell .0 + 3) rows
   pub done : w ≡ swept 0 (row * cols) (f w₀) w₀
 
@@ -64,6 +65,7 @@ module _ (f : List ℕ → ℕ → ℕ) (rows cols : ℕ) (cell : Cell) (w₀ : 
   rows-none =
       record {
         long = refl;
+        low = omega arith;
         high = le-min (omega arith) (omega (arith, on .down));
         done = span-begin (f w₀) w₀ cols _ _ _ _ still wide w₀ refl;
       }
@@ -91,6 +93,7 @@ module _ (f : List ℕ → ℕ → ℕ) (rows cols : ℕ) (cell : Cell) (w₀ : 
     rows-turn w′ e h =
         record {
           long = e ∙ u .long;
+          low = omega (arith, u .low);
           high = omega arith;
           done =
               row-end (f w₀) w₀ cols _ _ _ _ still wide w′ row (min-le-right (cell .1 + 3) cols)
@@ -129,6 +132,13 @@ module _ (f : List ℕ → ℕ → ℕ) (rows cols : ℕ) (cell : Cell) (w₀ : 
 
     pub near-rest : row < bottom → (k : ℕ) → row * cols ≤ k → k < length w → getD w k 0 ≡ getD w₀ k 0
     near-rest h = rows-rest f rows cols cell w₀ far on w row from to (i .upto) (omega (arith, i .under)) (i .left) (i .right)
+
+    -- the row's columns are within distance 2
+    pub near-reach : row < bottom → InReach cell row from to
+    near-reach h col a b =
+        let r : row < cell .0 + 3 = omega (arith, i .under, min-le-left (cell .0 + 3) rows) in
+        let d : col < cell .1 + 3 = omega (arith, i .right, min-le-left (cell .1 + 3) cols) in
+        max-le (omega (arith, i .upto .low)) (omega (arith, i .left))
 
     pub near-turn : row < bottom → (w′ : List ℕ) → length w′ ≡ length w
         → ((l : List ℕ) → length l ≡ length w → w ≡ swept 0 (row * cols + from) (f l) l → w′ ≡ swept 0 (row * cols + to) (f l) l)

@@ -1,6 +1,6 @@
 -- What loops over the span of radius 2 round a cell lean on, and the spans that `near_spans` gives. The calls themselves are stated by
 -- document 01's definitions.
-use Prim.Native.Nat.{ℕ, _+_, _-_, _*_, _<_, _≤_, min}
+use Prim.Native.Nat.{ℕ, _+_, _-_, _*_, _<_, _≤_, min, max}
 use mathlib.Core.Path.{_≡_}
 use mathlib.Core.List.{List}
 use lib.IntN.{_+ℤ_}
@@ -8,6 +8,7 @@ use lib.ListN.{length}
 use Rattle.base.specs.Refusal.{accepted, refusal}
 use Rattle.rules.specs.Bounds.{maxBoardSide, maxCells}
 use Rattle.rules.specs.Answers.{spanAnswer}
+use Rattle.rules.specs.Grid.{gap}
 use Rattle.rules.specs.Places.{spanOf}
 use Rattle.rules.specs.Fit.{placeChecks}
 use Rattle.rules.specs.declared.World.{World}
@@ -37,6 +38,13 @@ pub record Nearby (rows cols : ℕ) (cell : Cell) (down across : Span) : Type 0 
   pub bottom : down .1 ≡ min (cell .0 + 3) rows
   pub left : across .0 ≡ cell .1 - 2
   pub right : across .1 ≡ min (cell .1 + 3) cols
+
+-- within distance 2 of a cell: one place, and the columns from..to of a row
+abbrev pub Close : Cell → ℕ → ℕ → Type 0
+Close cell row col = max (gap (cell .0) row) (gap (cell .1) col) ≤ 2
+
+abbrev pub InReach : Cell → ℕ → ℕ → ℕ → Type 0
+InReach cell row from to = (col : ℕ) → from ≤ col → col < to → Close cell row col
 
 -- those spans of a place that has to lie on the board
 abbrev pub endClipped : ℕ → Span → Span

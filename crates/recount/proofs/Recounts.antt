@@ -17,26 +17,23 @@ use Rattle.rules.specs.Grid.{gap, flat}
 use Rattle.rules.specs.Fit.{pattern, fitCount}
 use Rattle.rules.specs.Board.{recounted, isRecounted}
 use Rattle.rules.specs.declared.Cell.{Cell}
+use Rattle.nearness.specs.Near.{Close}
 use Rattle.nearness.proofs.Nearby.{Far}
 use Rattle.recount.specs.Checks.{countAfter, isNear, recountedAt}
 
-module _ (tiles pieces : List ℕ) (rows cols : ℕ) (cell : Cell) (row col old r : ℕ) (e : r ≡ max (gap (cell .0) row) (gap (cell .1) col)) where
-  pub stays-far : 2 < r → old ≡ countAfter tiles pieces rows cols cell row col old
+module _ (tiles pieces : List ℕ) (rows cols : ℕ) (cell : Cell) (row col old : ℕ) (near : Close cell row col) where
+  pub stays-low : rows ≤ row + 2 → old ≡ countAfter tiles pieces rows cols cell row col old
   unfolding countAfter
-  stays-far h = rw (← e, lt-leb r 2 h)
+  stays-low p = rw (le-leb (max (gap (cell .0) row) (gap (cell .1) col)) 2 near, le-ltb (row + 2) rows p)
 
-  pub stays-low : r ≤ 2 → rows ≤ row + 2 → old ≡ countAfter tiles pieces rows cols cell row col old
+  pub stays-right : row + 2 < rows → cols ≤ col + 2 → old ≡ countAfter tiles pieces rows cols cell row col old
   unfolding countAfter
-  stays-low h p = rw (← e, le-leb r 2 h, le-ltb (row + 2) rows p)
+  stays-right p q = rw (le-leb (max (gap (cell .0) row) (gap (cell .1) col)) 2 near, lt-ltb (row + 2) rows p, le-ltb (col + 2) cols q)
 
-  pub stays-right : r ≤ 2 → row + 2 < rows → cols ≤ col + 2 → old ≡ countAfter tiles pieces rows cols cell row col old
-  unfolding countAfter
-  stays-right h p q = rw (← e, le-leb r 2 h, lt-ltb (row + 2) rows p, le-ltb (col + 2) cols q)
-
-  pub counted : (n : ℕ) → r ≤ 2 → row + 2 < rows → col + 2 < cols → n ≡ fitCount tiles (pattern (flat rows cols) pieces (row * cols + col))
+  pub counted : (n : ℕ) → row + 2 < rows → col + 2 < cols → n ≡ fitCount tiles (pattern (flat rows cols) pieces (row * cols + col))
       → n ≡ countAfter tiles pieces rows cols cell row col old
   unfolding countAfter
-  counted n h p q z = rw (← e, le-leb r 2 h, lt-ltb (row + 2) rows p, lt-ltb (col + 2) cols q) z
+  counted n p q z = rw (le-leb (max (gap (cell .0) row) (gap (cell .1) col)) 2 near, lt-ltb (row + 2) rows p, lt-ltb (col + 2) cols q) z
 
 -- the value written at (row, col) is that of the cell's number
 pub recounted-here : (tiles pieces : List ℕ) (rows cols : ℕ) (cell : Cell) (row col old v : ℕ) (l : List ℕ) → col < cols → getD l (row * cols + col) 0 ≡ old

@@ -11,7 +11,7 @@ ghost use Rattle.rules.specs.Answers.{writtenAnswer};
 ghost use Rattle.rules.specs.Board.{recounted, recountChecks, afterRecount};
 ghost use Rattle.pattern.specs.Ready.{OnGrid};
 ghost use Rattle.windows.specs.Ready.{Countable};
-ghost use Rattle.nearness.specs.Near.{OnPlane, InRow, Nearby};
+ghost use Rattle.nearness.specs.Near.{OnPlane, InRow, Nearby, Close, InReach};
 ghost use Rattle.recount.specs.Checks.{countAfter, recountedAt, countedAlone, planesAlone};
 use checks::board_sides;
 use checks::cells_of;
@@ -21,7 +21,6 @@ use checks::words_have_length;
 use contents::no_byte_above;
 use contents::no_word_above;
 use contents::pieces_stored;
-use nearness::distance;
 use nearness::near_spans;
 use places::cell_of;
 use rules::Cell;
@@ -33,24 +32,20 @@ use rules::World;
 use rules::Written;
 use windows::fit_count_at;
 
-// The count of the region that starts at (row, col) after the piece on `cell` changed: counted anew within distance 2 where the region
-// lies inside the grid, else as it was.
+// The count of the region that starts at (row, col) after a piece within distance 2 of it changed: counted anew where the region lies
+// inside the grid, else as it was.
 fn count_after(
     pieces: &[u32],
     rows: usize,
     cols: usize,
     tiles: &[u8],
-    cell: Cell,
     row: usize,
     col: usize,
     old: u32,
 ) -> u32
     requires { ⌜ (Countable (now pieces) rows cols (now tiles)) × (OnGrid rows cols row col) ⌝ }
-    ensures { λ r. ⌜ r ≡ countAfter (now (tiles .entry)) (now (pieces .entry)) rows cols cell row col old ⌝ }
+    ensures { λ r. ⌜ ((cell : Cell) → Close cell row col → r ≡ countAfter (now (tiles .entry)) (now (pieces .entry)) rows cols cell row col old) ⌝ }
 {
-    if 2 < distance(cell, row, col) {
-        return old;
-    }
     if rows <= row + 2 {
         return old;
     }
@@ -60,29 +55,30 @@ fn count_after(
     fit_count_at(pieces, rows, cols, tiles, row, col)
 }
 
+// One row of the span. Whatever cell it is near, and whatever plane the rows above were recounted in, this row is recounted there too.
 fn recount_row(
     counts: &mut [u32],
     pieces: &[u32],
     rows: usize,
     cols: usize,
     tiles: &[u8],
-    cell: Cell,
     row: usize,
     from: usize,
     to: usize,
 )
     requires { ⌜ (InRow (now counts) cols row from to) × (Countable (now pieces) rows cols (now tiles)) × (row < rows) ⌝ }
-    ensures { λ _. ⌜ ((l : List ℕ) → length l ≡ length (now (counts .entry)) → now (counts .entry) ≡ swept 0 (row * cols + from) (recountedAt (now (tiles .entry)) (now (pieces .entry)) rows cols cell l) l → now (counts .exit) ≡ swept 0 (row * cols + to) (recountedAt (now (tiles .entry)) (now (pieces .entry)) rows cols cell l) l) ⌝ }
+    ensures { λ _. ⌜ ((cell : Cell) → InReach cell row from to → (l : List ℕ) → length l ≡ length (now (counts .entry)) → now (counts .entry) ≡ swept 0 (row * cols + from) (recountedAt (now (tiles .entry)) (now (pieces .entry)) rows cols cell l) l → now (counts .exit) ≡ swept 0 (row * cols + to) (recountedAt (now (tiles .entry)) (now (pieces .entry)) rows cols cell l) l) ⌝ }
 {
     let mut col = from;
     while col < to {
         let k = row * cols + col;
-        counts[k] = count_after(pieces, rows, cols, tiles, cell, row, col, counts[k]);
+        counts[k] = count_after(pieces, rows, cols, tiles, row, col, counts[k]);
         col += 1;
     }
 }
 
-// Region starts within distance 2 whose region lies inside the grid get the number of fitting tiles; other counts stay.
+// Region starts within distance 2 whose region lies inside the grid get the number of fitting tiles; other counts stay. The spans say where
+// they are: `cell` is there for the promise.
 pub fn recount_near(
     counts: &mut [u32],
     pieces: &[u32],
@@ -101,7 +97,7 @@ pub fn recount_near(
     let bottom = down.1;
     let mut row = down.0;
     while row < bottom {
-        recount_row(counts, pieces, rows, cols, tiles, cell, row, from, to);
+        recount_row(counts, pieces, rows, cols, tiles, row, from, to);
         row += 1;
     }
 }
