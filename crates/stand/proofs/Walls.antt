@@ -12,7 +12,7 @@ use Rattle.base.specs.Counting.{within}
 use Rattle.base.specs.Whole.{clip, withinZ, indexBelow, eqZ}
 use Rattle.base.proofs.Bools.{never, and-left, and-right, and-both}
 use Rattle.base.proofs.Numbers.{cell-lt, row-of, col-of, cell-is, row-lt, col-lt, within-low, within-high}
-use Rattle.base.proofs.Signs.{index-clip, index-pos}
+use Rattle.base.proofs.Signs.{eqZ-true, index-clip, index-pos}
 use Rattle.rules.specs.Bounds.{maxBoardSide, minCoordinate, maxCoordinate, minOffset, maxOffset}
 use Rattle.rules.specs.Tests.{boardSides, onWall, offsetFits, onBoard}
 use Rattle.rules.specs.Places.{cellOf}
@@ -25,12 +25,6 @@ use Rattle.stand.specs.Runs.{Panel, cellAt, wallOf}
 pub record On (j : Panel) (w : World) : Type 0 where
   pub wall : onWall w ≡ true
   pub board : onBoard (j .rows) (j .cols) w (j .offset) ≡ true
-
-eqZ-true : (x y : ℤ) → eqZ x y ≡ true → x ≡ y
-eqZ-true (pos a) (pos b) e = ap pos (eqb-true a b e)
-eqZ-true (pos a) (negsuc b) e = never false e refl
-eqZ-true (negsuc a) (pos b) e = never false e refl
-eqZ-true (negsuc a) (negsuc b) e = ap negsuc (eqb-true a b e)
 
 eqZ-same : (x : ℤ) → eqZ x x ≡ true
 eqZ-same (pos a) = eq-eqb a a refl
