@@ -5,8 +5,10 @@ ghost use mathlib.Core.Bool.{true, _&&_};
 ghost use Prim.Native.Nat.{ℕ, _<_};
 ghost use lib.Dec.{leb};
 ghost use Rattle.base.specs.Counting.{within};
+ghost use Rattle.base.specs.Refusal.{accepted, refusal};
 ghost use Rattle.rules.specs.Tests.{colourCount, noneAbove, piecesStored};
 ghost use Rattle.rules.specs.Floats.{isNumber, isFinite, allAre};
+ghost use Rattle.rules.specs.Fit.{contentsChecks};
 
 // Both: made of one operation without a branch.
 fn and_too(sofar: bool, here: bool) -> bool
@@ -60,7 +62,7 @@ fn piece_stored(piece: u32, most: u32) -> bool
     and_too(1 <= piece, piece <= most)
 }
 
-pub fn pieces_stored(pieces: &[u32], count: u32) -> bool
+fn pieces_stored(pieces: &[u32], count: u32) -> bool
     requires { ⌜ colourCount count ≡ true ⌝ }
     ensures { λ r. ⌜ r ≡ piecesStored (now (pieces .entry)) count ⌝ }
 {
@@ -72,6 +74,22 @@ pub fn pieces_stored(pieces: &[u32], count: u32) -> bool
         k += 1;
     }
     fine
+}
+
+// COUNT, then CELL of the tiles and of the stored pieces; 0 where all pass.
+pub fn colours_refused(tiles: &[u8], count: u32, pieces: &[u32]) -> u8
+    ensures { λ r. ⌜ r ≡ refusal (contentsChecks (now (tiles .entry)) count (now (pieces .entry)) accepted) ⌝ }
+{
+    if !checks::colour_count(count) {
+        return rules::COUNT;
+    }
+    if !no_byte_above(tiles, count) {
+        return rules::CELL;
+    }
+    if !pieces_stored(pieces, count) {
+        return rules::CELL;
+    }
+    0
 }
 
 // Not a NaN and not below zero, which -0.0 is not.

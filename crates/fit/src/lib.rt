@@ -29,16 +29,7 @@ pub fn pieces_refused(pieces: &[u32], rows: usize, cols: usize, tiles: &[u8], co
     if !checks::whole_tiles(tiles) {
         return rules::LENGTH;
     }
-    if !checks::colour_count(count) {
-        return rules::COUNT;
-    }
-    if !contents::no_byte_above(tiles, count) {
-        return rules::CELL;
-    }
-    if !contents::pieces_stored(pieces, count) {
-        return rules::CELL;
-    }
-    0
+    contents::colours_refused(tiles, count, pieces)
 }
 
 // The colours that fit at a place.

@@ -11,12 +11,10 @@ ghost use Rattle.rules.specs.Board.{freshChecks, afterFresh, layingChecks, lift
 ghost use Rattle.planes.specs.Planes.{board, number, lengthsAlone, contentsAlone};
 use checks::board_sides;
 use checks::cells_of;
-use checks::colour_count;
 use checks::tile_number_fits;
 use checks::words_have_length;
-use contents::no_byte_above;
+use contents::colours_refused;
 use contents::no_word_above;
-use contents::pieces_stored;
 use rules::Cell;
 use rules::Written;
 
@@ -58,14 +56,9 @@ pub fn contents_refused(
     requires { ⌜ n ≤ maxTiles ⌝ }
     ensures { λ r. ⌜ r ≡ refusal (contentsAlone (now (pieces .entry)) (now (weights .entry)) (now (counts .entry)) (now (tiles .entry)) count n) ⌝ }
 {
-    if !colour_count(count) {
-        return rules::COUNT;
-    }
-    if !no_byte_above(tiles, count) {
-        return rules::CELL;
-    }
-    if !pieces_stored(pieces, count) {
-        return rules::CELL;
+    let no = colours_refused(tiles, count, pieces);
+    if no != 0 {
+        return no;
     }
     if !no_word_above(weights, rules::MAX_WEIGHT) {
         return rules::CELL;

@@ -15,12 +15,10 @@ ghost use Rattle.nearness.specs.Near.{OnPlane, InRow, Nearby, Close, InReach};
 ghost use Rattle.recount.specs.Checks.{countAfter, recountedAt, countedAlone, planesAlone};
 use checks::board_sides;
 use checks::cells_of;
-use checks::colour_count;
 use checks::tile_number;
 use checks::words_have_length;
-use contents::no_byte_above;
+use contents::colours_refused;
 use contents::no_word_above;
-use contents::pieces_stored;
 use nearness::near_spans;
 use places::cell_of;
 use rules::Cell;
@@ -107,14 +105,9 @@ fn contents_refused(counts: &[u32], pieces: &[u32], tiles: &[u8], count: u32, n:
     requires { ⌜ n ≤ maxTiles ⌝ }
     ensures { λ r. ⌜ r ≡ refusal (countedAlone (now (counts .entry)) (now (pieces .entry)) (now (tiles .entry)) count n) ⌝ }
 {
-    if !colour_count(count) {
-        return rules::COUNT;
-    }
-    if !no_byte_above(tiles, count) {
-        return rules::CELL;
-    }
-    if !pieces_stored(pieces, count) {
-        return rules::CELL;
+    let no = colours_refused(tiles, count, pieces);
+    if no != 0 {
+        return no;
     }
     if !no_word_above(counts, n as u32) {
         return rules::CELL;

@@ -34,14 +34,9 @@ fn lengths_refused(pieces: &[u32], weights: &[u32], rows: usize, cols: usize, ti
 fn cells_refused(pieces: &[u32], weights: &[u32], tiles: &[u8], count: u32) -> u8
     ensures { λ r. ⌜ r ≡ refusal (cellChecks (now (pieces .entry)) (now (weights .entry)) (now (tiles .entry)) count) ⌝ }
 {
-    if !checks::colour_count(count) {
-        return rules::COUNT;
-    }
-    if !contents::no_byte_above(tiles, count) {
-        return rules::CELL;
-    }
-    if !contents::pieces_stored(pieces, count) {
-        return rules::CELL;
+    let no = contents::colours_refused(tiles, count, pieces);
+    if no != 0 {
+        return no;
     }
     if !contents::no_word_above(weights, rules::MAX_WEIGHT) {
         return rules::CELL;

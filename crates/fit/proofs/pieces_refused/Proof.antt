@@ -1,7 +1,7 @@
--- `fit::pieces_refused` meets its contract: a chain of six checks. Assumes nothing.
+-- `fit::pieces_refused` meets its contract: three checks, then those of the colours. Assumes nothing.
 use mathlib.Core.Path.{_∙_, ap}
 use Rattle.base.proofs.Bools.{passes}
-use Rattle.base.proofs.Chain.{refuse, pass, no-check}
+use Rattle.base.proofs.Chain.{refuse, pass}
 use Rattle.rules.specs.Tests.{hasLength}
 use borrow.Author.Needs.{needs}
 use Rattle.fit.proofs.pieces_refused.Statement.{statement}
@@ -31,44 +31,16 @@ returns-3 c = pass _ _ _ (c .before .before .before .before .before .before .boa
     (pass _ _ _ (c .before .before .before .words-have-length .ensures ∙ ap (hasLength (c .before .before .before .before .before .before .before .before .before .args .pieces .now)) (c .before .before .before .before .cells-of .ensures)) (c .before .before .if2 .left)
     (refuse _ _ (c .before .whole-tiles .ensures) (c .if3 .taken)))
 
-colour-count-requires : tie.Need-colour-count-requires
-colour-count-requires c κs = search needs
+colours-refused-requires : tie.Need-colours-refused-requires
+colours-refused-requires c κs = search needs
 
 returns-4 : tie.Need-returns-4
-returns-4 c = pass _ _ _ (c .before .before .before .before .before .before .before .before .board-sides .ensures) (c .before .before .before .before .before .before .before .if1 .left)
-    (pass _ _ _ (c .before .before .before .before .before .words-have-length .ensures ∙ ap (hasLength (c .before .before .before .before .before .before .before .before .before .before .before .args .pieces .now)) (c .before .before .before .before .before .before .cells-of .ensures)) (c .before .before .before .before .if2 .left)
-    (pass _ _ _ (c .before .before .before .whole-tiles .ensures) (c .before .before .if3 .left)
-    (refuse _ _ (c .before .colour-count .ensures) (c .if4 .taken))))
-
-no-byte-above-requires : tie.Need-no-byte-above-requires
-no-byte-above-requires c κs = search needs
-
-returns-5 : tie.Need-returns-5
-returns-5 c = pass _ _ _ (c .before .before .before .before .before .before .before .before .before .before .board-sides .ensures) (c .before .before .before .before .before .before .before .before .before .if1 .left)
-    (pass _ _ _ (c .before .before .before .before .before .before .before .words-have-length .ensures ∙ ap (hasLength (c .before .before .before .before .before .before .before .before .before .before .before .before .before .args .pieces .now)) (c .before .before .before .before .before .before .before .before .cells-of .ensures)) (c .before .before .before .before .before .before .if2 .left)
-    (pass _ _ _ (c .before .before .before .before .before .whole-tiles .ensures) (c .before .before .before .before .if3 .left)
-    (pass _ _ _ (c .before .before .before .colour-count .ensures) (c .before .before .if4 .left)
-    (refuse _ _ (c .before .no-byte-above .ensures) (c .if5 .taken)))))
-
-pieces-stored-requires : tie.Need-pieces-stored-requires
-pieces-stored-requires c κs = passes _ (c .before .before .before .colour-count .ensures) (c .before .before .if4 .left)
-
-returns-6 : tie.Need-returns-6
-returns-6 c = pass _ _ _ (c .before .before .before .before .before .before .before .before .before .before .before .before .board-sides .ensures) (c .before .before .before .before .before .before .before .before .before .before .before .if1 .left)
-    (pass _ _ _ (c .before .before .before .before .before .before .before .before .before .words-have-length .ensures ∙ ap (hasLength (c .before .before .before .before .before .before .before .before .before .before .before .before .before .before .before .args .pieces .now)) (c .before .before .before .before .before .before .before .before .before .before .cells-of .ensures)) (c .before .before .before .before .before .before .before .before .if2 .left)
-    (pass _ _ _ (c .before .before .before .before .before .before .before .whole-tiles .ensures) (c .before .before .before .before .before .before .if3 .left)
-    (pass _ _ _ (c .before .before .before .before .before .colour-count .ensures) (c .before .before .before .before .if4 .left)
-    (pass _ _ _ (c .before .before .before .no-byte-above .ensures) (c .before .before .if5 .left)
-    (refuse _ _ (c .before .pieces-stored .ensures) (c .if6 .taken))))))
-
-returns-7 : tie.Need-returns-7
-returns-7 c = pass _ _ _ (c .before .before .before .before .before .before .before .before .before .before .before .before .board-sides .ensures) (c .before .before .before .before .before .before .before .before .before .before .before .if1 .left)
-    (pass _ _ _ (c .before .before .before .before .before .before .before .before .before .words-have-length .ensures ∙ ap (hasLength (c .before .before .before .before .before .before .before .before .before .before .before .before .before .before .before .args .pieces .now)) (c .before .before .before .before .before .before .before .before .before .before .cells-of .ensures)) (c .before .before .before .before .before .before .before .before .if2 .left)
-    (pass _ _ _ (c .before .before .before .before .before .before .before .whole-tiles .ensures) (c .before .before .before .before .before .before .if3 .left)
-    (pass _ _ _ (c .before .before .before .before .before .colour-count .ensures) (c .before .before .before .before .if4 .left)
-    (pass _ _ _ (c .before .before .before .no-byte-above .ensures) (c .before .before .if5 .left)
-    (pass _ _ _ (c .before .pieces-stored .ensures) (c .if6 .left)
-    no-check)))))
+returns-4 c =
+    let e = c .before in
+    pass _ _ _ (e .before .before .before .before .before .before .board-sides .ensures) (e .before .before .before .before .before .if1 .left)
+    (pass _ _ _ (e .before .before .before .words-have-length .ensures ∙ ap (hasLength (e .before .before .before .before .before .before .before .before .before .args .pieces .now)) (e .before .before .before .before .cells-of .ensures)) (e .before .before .if2 .left)
+    (pass _ _ _ (e .before .whole-tiles .ensures) (e .if3 .left)
+    (c .colours-refused .ensures)))
 
 pub pieces-refused-spec : {M : Type 1} → statement M
 pieces-refused-spec =
@@ -81,10 +53,5 @@ pieces-refused-spec =
     returns-2
     whole-tiles-requires
     returns-3
-    colour-count-requires
-    returns-4
-    no-byte-above-requires
-    returns-5
-    pieces-stored-requires
-    returns-6
-    returns-7)
+    colours-refused-requires
+    returns-4)

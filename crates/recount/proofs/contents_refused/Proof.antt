@@ -1,32 +1,15 @@
--- `recount::contents_refused` meets its contract: a chain of four checks. Assumes nothing.
-use Rattle.base.proofs.Bools.{passes}
+-- `recount::contents_refused` meets its contract: the checks of the colours, then that of the counts. Assumes nothing.
 use Rattle.base.proofs.Chain.{refuse, pass, no-check}
+use Rattle.contents.proofs.Then.{colours-stop, colours-go}
 use borrow.Author.Needs.{needs}
 use Rattle.recount.proofs.contents_refused.Statement.{statement}
 use Rattle.recount.proofs.contents_refused.Tie as tie
 
-colour-count-requires : tie.Need-colour-count-requires
-colour-count-requires c κs = search needs
+colours-refused-requires : tie.Need-colours-refused-requires
+colours-refused-requires c κs = search needs
 
 returns : tie.Need-returns
-returns c = refuse _ _ (c .before .colour-count .ensures) (c .if1 .taken)
-
-no-byte-above-requires : tie.Need-no-byte-above-requires
-no-byte-above-requires c κs = search needs
-
-returns-2 : tie.Need-returns-2
-returns-2 c =
-    pass _ _ _ (c .before .before .before .colour-count .ensures) (c .before .before .if1 .left)
-    (refuse _ _ (c .before .no-byte-above .ensures) (c .if2 .taken))
-
-pieces-stored-requires : tie.Need-pieces-stored-requires
-pieces-stored-requires c κs = passes _ (c .before .before .before .colour-count .ensures) (c .before .before .if1 .left)
-
-returns-3 : tie.Need-returns-3
-returns-3 c =
-    pass _ _ _ (c .before .before .before .before .before .colour-count .ensures) (c .before .before .before .before .if1 .left)
-    (pass _ _ _ (c .before .before .before .no-byte-above .ensures) (c .before .before .if2 .left)
-    (refuse _ _ (c .before .pieces-stored .ensures) (c .if3 .taken)))
+returns c = colours-stop _ _ _ _ _ (c .before .colours-refused .ensures) (c .if1 .taken)
 
 cast-no-word-above : tie.Need-cast-no-word-above
 cast-no-word-above c = search needs
@@ -34,32 +17,15 @@ cast-no-word-above c = search needs
 no-word-above-requires : tie.Need-no-word-above-requires
 no-word-above-requires c κs = search needs
 
-returns-4 : tie.Need-returns-4
-returns-4 c =
-    pass _ _ _ (c .before .before .before .before .before .before .before .colour-count .ensures) (c .before .before .before .before .before .before .if1 .left)
-    (pass _ _ _ (c .before .before .before .before .before .no-byte-above .ensures) (c .before .before .before .before .if2 .left)
-    (pass _ _ _ (c .before .before .before .pieces-stored .ensures) (c .before .before .if3 .left)
-    (refuse _ _ (c .before .no-word-above .ensures) (c .if4 .taken))))
+returns-2 : tie.Need-returns-2
+returns-2 c =
+    colours-go _ _ _ _ (c .before .before .before .colours-refused .ensures) (c .before .before .if1 .left)
+    (refuse _ _ (c .before .no-word-above .ensures) (c .if2 .taken))
 
-returns-5 : tie.Need-returns-5
-returns-5 c =
-    pass _ _ _ (c .before .before .before .before .before .before .before .colour-count .ensures) (c .before .before .before .before .before .before .if1 .left)
-    (pass _ _ _ (c .before .before .before .before .before .no-byte-above .ensures) (c .before .before .before .before .if2 .left)
-    (pass _ _ _ (c .before .before .before .pieces-stored .ensures) (c .before .before .if3 .left)
-    (pass _ _ _ (c .before .no-word-above .ensures) (c .if4 .left)
-    (no-check))))
+returns-3 : tie.Need-returns-3
+returns-3 c =
+    colours-go _ _ _ _ (c .before .before .before .colours-refused .ensures) (c .before .before .if1 .left)
+    (pass _ _ _ (c .before .no-word-above .ensures) (c .if2 .left) no-check)
 
 pub contents-refused-spec : {M : Type 1} → statement M
-contents-refused-spec =
-    tie.close
-    (tie.spec
-    colour-count-requires
-    returns
-    no-byte-above-requires
-    returns-2
-    pieces-stored-requires
-    returns-3
-    cast-no-word-above
-    no-word-above-requires
-    returns-4
-    returns-5)
+contents-refused-spec = tie.close (tie.spec colours-refused-requires returns cast-no-word-above no-word-above-requires returns-2 returns-3)
