@@ -5,7 +5,7 @@ use mathlib.Core.List.{List, [], _∷_, map}
 use Rattle.base.specs.Tables.{fold}
 use Rattle.rules.specs.Board.{Job, Board, shapeOf, boardOf, afterLay, afterLift}
 use Rattle.stand.specs.Runs as Runs·
-use Rattle.stand.proofs.Stands.{says-all}
+use Rattle.stand.proofs.Stands.{pieces-stand, says-all}
 use Rattle.jobs.specs.Form.{Step, lay, lift}
 use Rattle.stepping.specs.Steps.{placeAt, boardAfter, boardIn}
 use Rattle.lister.specs.Printed.{freshFor}
@@ -27,6 +27,12 @@ pub run-is : (j : Job) (b : Board) (l : List Step) → boardIn j b l ≡ Runs·.
 unfolding boardIn Runs·.run fold
 run-is j b [] = refl
 run-is j b (s ∷ l) = ap (λ (c : Board). boardIn j c l) (step-is j b s) ∙ run-is j (Runs·.step (panelOf j) b (callOf j s)) l
+
+-- the pieces after the steps are those that the accepted ones say
+pub printed-told : (j : Job) (l : List Step)
+    → boardIn j (freshFor j) l .pieces ≡ Runs·.told (panelOf j) (Runs·.acceptedIn (panelOf j) (freshFor j) (map (callOf j) l))
+unfolding freshFor
+printed-told j l = ap (λ (b : Board). b .pieces) (run-is j (freshFor j) l) ∙ pieces-stand (panelOf j) (map (callOf j) l)
 
 -- the planes after the steps are those that the standing pieces make
 pub printed-stands : (j : Job) (l : List Step) → boardIn j (freshFor j) l ≡ boardOf (shapeOf j) (j .tiles) (boardIn j (freshFor j) l .pieces)

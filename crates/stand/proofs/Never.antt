@@ -1,5 +1,6 @@
 -- The auditor's question: a piece is laid on the plan and later lifted; how do you know the plan is as if that piece had never lain there?
---     as-if-never    with any calls before, between and after, refused ones included, the board is that of the same calls without the piece's
+--     as-if-never    whatever calls come before, between and after, refused ones included, the board is that of the same calls without the
+--                    piece's; those between name the number of colours that the piece was laid with
 --     lifted-at-once   a piece laid and lifted at once leaves the very board that was there
 --     same-pieces    two runs that leave the same pieces leave the same board, whatever was laid and lifted on the way
 -- The two runs are followed side by side: at every moment the one without the piece has the other's pieces with that cell bare.
@@ -129,8 +130,8 @@ module _ (j : Panel) where
         (λ laid. has-new _ (without q) q (taken j q (lift count w) good (record { panel = panel; named = named; stored = s; on = on; own = (laid, tt) })))
         (λ off. either {new = without q} {old = q} (λ r. r ≡ without q) (refusalOf j (ofPieces j q) (lift count w)) (λ z. refl) (sym (bare-stays q k good (cell-in j on) off)))
 
-  -- "A piece is laid on the plan and later lifted": the plan is as if that piece had never lain there. `before`, `between` and `after` are any
-  -- calls; those between that name the piece's own place (a second lay there, an earlier lift) go with it. While the piece stands the calls
+  -- "A piece is laid on the plan and later lifted": the plan is as if that piece had never lain there. `before` and `after` are any calls;
+  -- those between that name the piece's own place (a second lay there, an earlier lift) go with it. While the piece stands the calls
   -- name the number of colours that it was laid with: one that names fewer may be refused for the piece's sake.
   pub as-if-never : (before between after : List Call) (w : World) (count colour : ℕ) → refusalOf j (run j (fresh j) before) (lay count w colour) ≡ 0
       → Naming count between

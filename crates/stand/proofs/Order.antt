@@ -1,6 +1,6 @@
 -- "So the board equals one where only the standing pieces were laid, in any order": for any run, and any order of the pieces that stand after
 -- it, laid on a fresh board by the rule of lay they leave the board of the run (any-order); and so they do by the call, each lay accepted, if
--- all name the largest number of colours (any-order-laid), or any number that the tiles and the pieces allow (any-order-named).
+-- all name the largest number of colours (any-order-laid), or any number in bounds that has those of the tiles and the pieces (any-order-named).
 -- Laid row by row they leave the plane bit by bit; two neighbours in the list lie on two cells, so they can change places. Assumes nothing.
 use Prim.Native.Nat.{ℕ, zero, suc, _+_, _*_, _<_, _≤_}
 use mathlib.Core.Path.{_≡_, refl, sym, _∙_, ap, subst}
