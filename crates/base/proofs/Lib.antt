@@ -3,6 +3,8 @@ pub mod Numbers
 pub mod Counted
 pub mod Tabled
 pub mod Swept
+pub mod Sweep
+pub mod Regions
 pub mod Chain
 pub mod Answered
 pub mod Signs

@@ -1,4 +1,5 @@
 pub mod Counting
 pub mod Tables
+pub mod Regions
 pub mod Refusal
 pub mod Whole

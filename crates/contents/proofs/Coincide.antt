@@ -5,7 +5,7 @@ use mathlib.Core.Path.{_≡_}
 use mathlib.Core.Bool.{Bool}
 use mathlib.Core.List.{List}
 use lib.Ieee.{Float}
-use Rattle.base.specs.Refusal.{accepted, refusal}
+use Rattle.base.specs.Refusal.{refusal}
 use Rattle.base.proofs.Chain.{coincide}
 use Rattle.rules.specs.Tests.{noneAbove}
 use Rattle.rules.specs.Floats.{isNumber, isFinite, allAre}
@@ -22,5 +22,5 @@ pub all-finite : (plane : List Float) {r s : Bool} → r ≡ allAre isFinite pla
 all-finite plane p q = coincide p q
 
 pub colours-refused : (tiles : List ℕ) (count : ℕ) (pieces : List ℕ) {r s : ℕ}
-    → r ≡ refusal (contentsChecks tiles count pieces accepted) → s ≡ refusal (contentsChecks tiles count pieces accepted) → r ≡ s
+    → r ≡ refusal (contentsChecks tiles count pieces) → s ≡ refusal (contentsChecks tiles count pieces) → r ≡ s
 colours-refused tiles count pieces p q = coincide p q

@@ -5,7 +5,7 @@ ghost use mathlib.Core.Bool.{true, _&&_};
 ghost use Prim.Native.Nat.{ℕ, _<_};
 ghost use lib.Dec.{leb};
 ghost use Rattle.base.specs.Counting.{within};
-ghost use Rattle.base.specs.Refusal.{accepted, refusal};
+ghost use Rattle.base.specs.Refusal.{refusal};
 ghost use Rattle.rules.specs.Tests.{colourCount, noneAbove, piecesStored};
 ghost use Rattle.rules.specs.Floats.{isNumber, isFinite, allAre};
 ghost use Rattle.rules.specs.Fit.{contentsChecks};
@@ -78,7 +78,7 @@ fn pieces_stored(pieces: &[u32], count: u32) -> bool
 
 // COUNT, then CELL of the tiles and of the stored pieces; 0 where all pass.
 pub fn colours_refused(tiles: &[u8], count: u32, pieces: &[u32]) -> u8
-    ensures { λ r. ⌜ r ≡ refusal (contentsChecks (now (tiles .entry)) count (now (pieces .entry)) accepted) ⌝ }
+    ensures { λ r. ⌜ r ≡ refusal (contentsChecks (now (tiles .entry)) count (now (pieces .entry))) ⌝ }
 {
     if !checks::colour_count(count) {
         return rules::COUNT;

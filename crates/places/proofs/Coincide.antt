@@ -5,7 +5,7 @@ use mathlib.Core.Path.{_≡_}
 use mathlib.Core.Bool.{Bool}
 use lib.IntN.{ℤ, _+ℤ_}
 use Rattle.base.specs.Whole.{clip, withinZ}
-use Rattle.base.specs.Refusal.{accepted, refusal}
+use Rattle.base.specs.Refusal.{refusal}
 use Rattle.base.proofs.Chain.{coincide}
 use Rattle.rules.specs.Tests.{onWall, offsetFits, onBoard}
 use Rattle.rules.specs.Places.{cellOf}
@@ -36,5 +36,5 @@ pub cell-of : (w : World) (o : Offset) {r s : Cell} → r ≡ cellOf w o → s �
 cell-of w o p q = coincide p q
 
 pub place-refused : (rows cols : ℕ) (w : World) (o : Offset) {r s : ℕ}
-    → r ≡ refusal (placeChecks rows cols w o accepted) → s ≡ refusal (placeChecks rows cols w o accepted) → r ≡ s
+    → r ≡ refusal (placeChecks rows cols w o) → s ≡ refusal (placeChecks rows cols w o) → r ≡ s
 place-refused rows cols w o p q = coincide p q

@@ -10,12 +10,12 @@ use lib.IntN.{ℤ, pos, negsuc, natAbs, subℕ, _+ℤ_}
 use lib.Signed.{ltZ, mag, nonNeg}
 use borrow.Author.Tests.{leb-true, le-leb, le-ltb, ltb-true}
 use Rattle.base.specs.Whole.{clip, withinZ, indexBelow}
-use Rattle.base.specs.Refusal.{accepted, _unless_or_, refusal}
+use Rattle.base.specs.Refusal.{refusal}
 use Rattle.base.proofs.Bools.{and-left, and-right, never}
 use Rattle.base.proofs.Numbers.{cell-lt}
-use Rattle.base.proofs.Chain.{passed}
+use Rattle.base.proofs.Chain.{all-pass}
 use Rattle.base.proofs.Signs.{index-clip, index-pos, ranged}
-use Rattle.rules.specs.Bounds.{minCoordinate, maxCoordinate, minOffset, maxOffset, maxRadius, PLACE}
+use Rattle.rules.specs.Bounds.{minCoordinate, maxCoordinate, minOffset, maxOffset, maxRadius}
 use Rattle.rules.specs.Tests.{onWall, offsetFits, onBoard}
 use Rattle.rules.specs.Places.{cellOf, spanOf, spanChecks, regionSpans}
 use Rattle.rules.specs.Grid.{numberOf}
@@ -75,9 +75,7 @@ pub record Region (o : Offset) (w : World) (k : ℕ) : Type 0 where
 
 pub region : (o : Offset) (w : World) (k : ℕ) → refusal (spanChecks o w k) ≡ 0 → Region o w k
 region o w k e =
-    let p = passed 0 (leb k maxRadius) (PLACE unless onWall w or PLACE unless offsetFits o or accepted) e in
-    let q = passed 5 (onWall w) (PLACE unless offsetFits o or accepted) (p .1) in
-    record { near = leb-true k maxRadius (p .0); walled = q .0; fitting = passed 5 (offsetFits o) accepted (q .1) .0 }
+    let h = all-pass (spanChecks o w k) refl e in record { near = leb-true k maxRadius (search); walled = search; fitting = search }
 
 -- what a place that was not refused gives
 pub record Placed (rows cols : ℕ) (w : World) (o : Offset) : Type 0 where
@@ -85,12 +83,9 @@ pub record Placed (rows cols : ℕ) (w : World) (o : Offset) : Type 0 where
   pub fitting : offsetFits o ≡ true
   pub boarded : onBoard rows cols w o ≡ true
 
-pub placed : (rows cols : ℕ) (w : World) (o : Offset) → refusal (placeChecks rows cols w o accepted) ≡ 0 → Placed rows cols w o
+pub placed : (rows cols : ℕ) (w : World) (o : Offset) → refusal (placeChecks rows cols w o) ≡ 0 → Placed rows cols w o
 placed rows cols w o e =
-    let p = passed 5 (onWall w) (PLACE unless offsetFits o or PLACE unless onBoard rows cols w o or accepted) e in
-    let q = passed 5 (offsetFits o) (PLACE unless onBoard rows cols w o or accepted) (p .1) in
-    let r = passed 5 (onBoard rows cols w o) accepted (q .1) in
-    record { walled = p .0; fitting = q .0; boarded = r .0 }
+    let h = all-pass (placeChecks rows cols w o) refl e in record { walled = search; fitting = search; boarded = search }
 
 module _ (rows cols : ℕ) (w : World) (o : Offset) (h : onBoard rows cols w o ≡ true) where
   row-on : indexBelow rows (w .0 +ℤ o .0) ≡ true
@@ -109,8 +104,7 @@ module _ (rows cols : ℕ) (w : World) (o : Offset) (h : onBoard rows cols w o �
   unfolding cellOf
   col-below = index-clip cols (w .1 +ℤ o .1) col-on
 
-  pub number-below : numberOf cols w o < rows * cols
-  unfolding numberOf
+  pub number-below : numberOf cols (cellOf w o) < rows * cols
   number-below = cell-lt row-below col-below
 
   -- the spans round it

@@ -5,7 +5,7 @@ ghost use mathlib.Core.Path.{_≡_};
 ghost use mathlib.Core.Bool.{_&&_};
 ghost use lib.IntN.{_+ℤ_};
 ghost use Rattle.base.specs.Whole.{clip, withinZ, indexBelow};
-ghost use Rattle.base.specs.Refusal.{refusal, accepted};
+ghost use Rattle.base.specs.Refusal.{refusal};
 ghost use Rattle.rules.specs.Tests.{onWall, offsetFits, onBoard};
 ghost use Rattle.rules.specs.Places.{cellOf};
 ghost use Rattle.rules.specs.Fit.{placeChecks};
@@ -92,7 +92,7 @@ pub fn cell_of(w: World, o: Offset) -> Cell
 
 // The refusal of a place that has to lie on the board, 0 where there is none.
 pub fn place_refused(rows: usize, cols: usize, w: World, o: Offset) -> u8
-    ensures { λ r. ⌜ r ≡ refusal (placeChecks rows cols w o accepted) ⌝ }
+    ensures { λ r. ⌜ r ≡ refusal (placeChecks rows cols w o) ⌝ }
 {
     if !on_wall(w) {
         return rules::PLACE;

@@ -17,11 +17,12 @@ use Rattle.rules.specs.Tests.{boardSides, sampleSides, hasLength, tileNu
 use Rattle.rules.specs.Places.{cellOf, spanOf, firstOf, lastOf, padBefore, padAfter, boxedBefore, boxedAfter, padsOf, boxedPads, extensionBy, extensionOf, boxedExtension}
 use Rattle.rules.specs.Sets.{has, bitsOf, coloursOf, membersOf}
 use Rattle.rules.specs.Tiles.{sampleCell, windowTile, rotated, reflected, turned, form, variant, sameTile, hasTile, withTile, distinct, extracted, extraction, storeAfter, storeWith}
-use Rattle.rules.specs.Grid.{cellNumber, flat, numberOf}
+use Rattle.rules.specs.Grid.{numberOrPast, flat}
 use Rattle.rules.specs.Fit.{agrees, fitsTile, fitCount, hasFitting, allows, leftAfter, listing}
 use Rattle.rules.specs.Forced.{neighbour, admits, boundsFit, forcesOne, isForced, forcedThere, forcedRound, padded, positionsOf, forcedNeighbours, deadAt, deadEnd}
 use Rattle.rules.specs.Probabilities.{largestOf, totalOf, normalised}
-use Rattle.rules.specs.Board.{Job, Board, raised, lowered, recounted, laid, lifted, freshBoard, afterLay, afterLift}
+use Rattle.rules.specs.Board.{Panel, Board, raised, lowered, recounted, laid, lifted, freshBoard, afterLay, afterLift}
+use Rattle.rules.specs.Promises.{panel}
 use Rattle.rules.specs.declared.World.{World}
 use Rattle.rules.specs.declared.Offset.{Offset}
 use Rattle.rules.specs.declared.BoundingBox.{BoundingBox}
@@ -88,23 +89,23 @@ store n = replicate n 0
 abbrev chequer : List ℕ
 chequer = extracted (1 ∷ 2 ∷ 1 ∷ 2 ∷ 2 ∷ 1 ∷ 2 ∷ 1 ∷ 1 ∷ 2 ∷ 1 ∷ 2 ∷ []) 3 4 false false
 
-abbrev three : Job
-three = record { rows = 3; cols = 3; count = 2; tiles = chequer; offset = origin }
+abbrev three : Panel
+three = panel 3 3 chequer origin
 
 abbrev fresh : Board
 fresh = freshBoard 9 2
 
 abbrev centre : Board
-centre = afterLay three fresh (at 1 1) 1
+centre = afterLay three 2 fresh (at 1 1) 1
 
 abbrev corner : Board
-corner = afterLay three fresh (at 0 0) 1
+corner = afterLay three 2 fresh (at 0 0) 1
 
 abbrev pair : Board
-pair = afterLay three corner (at 0 1) 1
+pair = afterLay three 2 corner (at 0 1) 1
 
 abbrev listing-on : Board → World → Listing
-listing-on b w = listing (b .pieces) 3 3 chequer 2 w origin
+listing-on b w = listing flat (b .pieces) 3 3 chequer 2 w origin
 
 abbrev box : BoundingBox
 box = record { min = record { 0 = negsuc 0; 1 = pos 0 }; max = at 9 9 }
@@ -147,14 +148,14 @@ table =
     -- Then 1 laid at (1,1): (0,0) lists 1, (0,1) lists 2; forced neighbours in order are 1,2,1,2,2,1,2,1
     ∷ case (listed (listing-on centre (at 0 0))) (0 ∷ 1 ∷ [])
     ∷ case (listed (listing-on centre (at 0 1))) (0 ∷ 2 ∷ [])
-    ∷ case (forced (forcedNeighbours (centre .pieces) 3 3 chequer 2 (at 1 1) origin Unbounded))
+    ∷ case (forced (forcedNeighbours flat (centre .pieces) 3 3 chequer 2 (at 1 1) origin Unbounded))
     (0 ∷ 0 ∷ 0 ∷ 1 ∷ 0 ∷ 1 ∷ 2 ∷ 0 ∷ 2 ∷ 1 ∷ 1 ∷ 0 ∷ 2 ∷ 1 ∷ 2 ∷ 2 ∷ 2 ∷ 0 ∷ 1 ∷ 2 ∷ 1 ∷ 2 ∷ 2 ∷ 2 ∷ 1 ∷ [])
     -- Chequer 3x3, 1 at (0,0) and at (0,1): dead end (0,2), whose weight is 5
-    ∷ case (dead (deadEnd (pair .pieces) (pair .weights) 3 3 chequer 2)) (0 ∷ 0 ∷ 2 ∷ [])
+    ∷ case (dead (deadEnd flat (pair .pieces) (pair .weights) 3 3 chequer 2)) (0 ∷ 0 ∷ 2 ∷ [])
     ∷ case (getD (pair .weights) 2 0 ∷ []) (5 ∷ [])
     -- Lay at (0,0) on 3x3: weights 4 4 2 / 4 4 2 / 2 2 2. Lifted: all 1
     ∷ case (corner .weights) (4 ∷ 4 ∷ 2 ∷ 4 ∷ 4 ∷ 2 ∷ 2 ∷ 2 ∷ 2 ∷ [])
-    ∷ case (afterLift three corner (at 0 0) .weights) (1 ∷ 1 ∷ 1 ∷ 1 ∷ 1 ∷ 1 ∷ 1 ∷ 1 ∷ 1 ∷ [])
+    ∷ case (afterLift three 2 corner (at 0 0) .weights) (1 ∷ 1 ∷ 1 ∷ 1 ∷ 1 ∷ 1 ∷ 1 ∷ 1 ∷ 1 ∷ [])
     -- Grid 5x5, offset 0, place (0,0), radius 2: pads left 2, top 2, offset (2,2). Box (-1,0) to (9,9): left 1, top 0, offset (1,0)
     ∷ case (padded-by (extensionOf 5 5 origin (at 0 0) 2)) (0 ∷ 2 ∷ 0 ∷ 2 ∷ 0 ∷ 2 ∷ 2 ∷ [])
     ∷ case (padded-by (boxedExtension 5 5 origin (at 0 0) 2 box)) (0 ∷ 1 ∷ 0 ∷ 0 ∷ 0 ∷ 1 ∷ 0 ∷ [])
@@ -175,5 +176,5 @@ hold [] = true
 hold (x ∷ xs) = same (x .got) (x .due) && hold xs
 
 pub bench : hold table ≡ true
-unfolding hold same table every some sum tally first within tab those fold refusal withinZ boardSides sampleSides hasLength tileNumber wholeTiles colourCount noneAbove piecesStored onWall offsetFits onBoard cellOf spanOf firstOf lastOf padBefore padAfter boxedBefore boxedAfter padsOf boxedPads extensionBy extensionOf boxedExtension has bitsOf coloursOf sampleCell windowTile rotated reflected turned form variant sameTile hasTile withTile distinct extracted extraction storeAfter storeWith cellNumber flat numberOf agrees fitsTile fitCount hasFitting allows leftAfter listing neighbour admits boundsFit forcesOne isForced forcedThere forcedRound padded positionsOf forcedNeighbours deadAt deadEnd largestOf totalOf normalised raised lowered recounted laid lifted freshBoard afterLay afterLift lt le add mul div ofBits ofInt toBits
+unfolding hold same table every some sum tally first within tab those fold refusal withinZ boardSides sampleSides hasLength tileNumber wholeTiles colourCount noneAbove piecesStored onWall offsetFits onBoard cellOf spanOf firstOf lastOf padBefore padAfter boxedBefore boxedAfter padsOf boxedPads extensionBy extensionOf boxedExtension has bitsOf coloursOf sampleCell windowTile rotated reflected turned form variant sameTile hasTile withTile distinct extracted extraction storeAfter storeWith numberOrPast flat agrees fitsTile fitCount hasFitting allows leftAfter listing neighbour admits boundsFit forcesOne isForced forcedThere forcedRound padded positionsOf forcedNeighbours deadAt deadEnd largestOf totalOf normalised raised lowered recounted laid lifted freshBoard afterLay afterLift lt le add mul div ofBits ofInt toBits
 bench = refl

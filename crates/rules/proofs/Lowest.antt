@@ -1,25 +1,21 @@
 -- Document 01, "Refusal numbers, lowest first when several hold": in every call's list of checks the numbers ascend, so what is answered
 -- is the lowest number of all checks that fail. One law over a list whose numbers ascend, by computation; then each call's list.
 -- Assumes nothing.
-use Prim.Native.Nat.{ℕ, zero, suc, _<_, _≤_}
-use mathlib.Core.Bool.{Bool, true, _&&_}
+use Prim.Native.Nat.{ℕ, _<_, _≤_}
+use mathlib.Core.Bool.{Bool, true}
 use mathlib.Core.Path.{_≡_, refl}
 use mathlib.Core.List.{List}
-use native.Mathlib.Omega.{arith}
-use lib.Dec.{leb}
 use lib.Ieee.{Float}
-use borrow.Author.Tests.{leb-true}
-use Rattle.base.specs.Refusal.{Checks, accepted, _unless_or_, refusal}
-use Rattle.base.proofs.Bools.{and-left, and-right}
-use Rattle.base.proofs.Chain.{Ascends, none, more, Fails, lowest, numbered}
-use Rattle.rules.specs.Places.{spanChecks, boxChecks, extensionChecks, boxedExtensionChecks, wordCopyChecks, floatCopyChecks}
+use Rattle.base.specs.Refusal.{Checks, refusal}
+use Rattle.base.proofs.Chain.{numbered, Fails, ascending, lowest}
+use Rattle.rules.specs.Places.{spanChecks, boxChecks, extensionChecks, boxedExtensionChecks, copyChecks, floatCopyChecks}
 use Rattle.rules.specs.Sets.{newSetChecks, setChecks, setsChecks}
 use Rattle.rules.specs.Tiles.{membershipChecks, extractionChecks}
 use Rattle.rules.specs.Fit.{listingChecks, regionChecks}
 use Rattle.rules.specs.Forced.{forcedChecks, queueChecks, addChecks, scanChecks}
 use Rattle.rules.specs.Scores.{fractionChecks, layScoreChecks, liftScoreChecks}
 use Rattle.rules.specs.Probabilities.{Block, normaliseChecks, influenceChecks}
-use Rattle.rules.specs.Board.{Job, Board, freshChecks, layChecks, liftChecks, weightChecks, recountChecks}
+use Rattle.rules.specs.Board.{Panel, Board, freshChecks, layChecks, liftChecks, weightChecks, recountChecks}
 use Rattle.rules.specs.declared.World.{World}
 use Rattle.rules.specs.declared.Offset.{Offset}
 use Rattle.rules.specs.declared.Cell.{Cell}
@@ -31,119 +27,100 @@ use Rattle.rules.specs.declared.TileBitset.{TileBitset}
 use Rattle.rules.specs.declared.ForcedPositions.{ForcedPositions}
 use Rattle.rules.specs.declared.ForcedPipeline.{ForcedPipeline}
 
-abbrev ascending : ℕ → Checks → Bool
-ascending lo accepted = true
-ascending lo (n unless b or cs) = leb lo n && ascending n cs
-
-ascends : (lo : ℕ) (cs : Checks) → ascending lo cs ≡ true → Ascends lo cs
-ascends lo accepted e = none
-ascends lo (n unless b or cs) e =
-    more (leb-true lo n (and-left (leb lo n) (ascending n cs) e)) (ascends n cs (and-right (leb lo n) (ascending n cs) e))
-
 -- where a check fails there is a refusal, and its number is no higher than that of the check
 abbrev pub Lowest : Checks → Type 0
 Lowest cs = (m : ℕ) → Fails m cs → (refusal cs ≤ m) × (0 < refusal cs)
 
--- numbers that ascend from 1 on are not 0
-no-zero : (lo : ℕ) (cs : Checks) → ascending (suc lo) cs ≡ true → numbered cs ≡ true
-unfolding numbered
-no-zero lo accepted e = refl
-no-zero lo (zero unless b or cs) e = absurd (out (leb-true (suc lo) zero (and-left (leb (suc lo) zero) (ascending zero cs) e)))
-  where
-    out : suc lo ≤ 0 → ⊥
-    out h = omega arith
-no-zero lo (suc n unless b or cs) e = no-zero n cs (and-right (leb (suc lo) (suc n)) (ascending (suc n) cs) e)
-
-by-order : (cs : Checks) → ascending 1 cs ≡ true → Lowest cs
-by-order cs e m f = let l = lowest {lo = 1} cs (ascends 1 cs e) f in (l .0, l .1 (no-zero 0 cs e))
+by-order : (cs : Checks) → numbered cs ≡ true → ascending cs ≡ true → Lowest cs
+by-order cs p a m f = lowest cs p a f
 
 -- ---- places
 
 pub spans-lowest : (o : Offset) (w : World) (k : ℕ) → Lowest (spanChecks o w k)
-spans-lowest o w k = by-order _ refl
+spans-lowest o w k = by-order _ refl refl
 
 pub contains-lowest : (b : BoundingBox) (w : World) → Lowest (boxChecks b w)
-contains-lowest b w = by-order _ refl
+contains-lowest b w = by-order _ refl refl
 
-pub extension-lowest : (rows cols : ℕ) (o : Offset) (w : World) (k : ℕ) → Lowest (extensionChecks rows cols o w k accepted)
-extension-lowest rows cols o w k = by-order _ refl
+pub extension-lowest : (rows cols : ℕ) (o : Offset) (w : World) (k : ℕ) → Lowest (extensionChecks rows cols o w k)
+extension-lowest rows cols o w k = by-order _ refl refl
 
 pub boxed-extension-lowest : (rows cols : ℕ) (o : Offset) (w : World) (k : ℕ) (b : BoundingBox) → Lowest (boxedExtensionChecks rows cols o w k b)
-boxed-extension-lowest rows cols o w k b = by-order _ refl
+boxed-extension-lowest rows cols o w k b = by-order _ refl refl
 
-pub copy-lowest : (plane : List ℕ) (rows cols : ℕ) (p : Pads) (target : List ℕ) → Lowest (wordCopyChecks plane rows cols p target)
-copy-lowest plane rows cols p target = by-order _ refl
+pub copy-lowest : (plane : List ℕ) (rows cols : ℕ) (p : Pads) (target : List ℕ) → Lowest (copyChecks plane rows cols p target)
+copy-lowest plane rows cols p target = by-order _ refl refl
 
 pub float-copy-lowest : (plane : List Float) (rows cols : ℕ) (p : Pads) (target : List Float) → Lowest (floatCopyChecks plane rows cols p target)
-float-copy-lowest plane rows cols p target = by-order _ refl
+float-copy-lowest plane rows cols p target = by-order _ refl refl
 
 -- ---- sets and tiles
 
 pub new-set-lowest : (size : ℕ) → Lowest (newSetChecks size)
-new-set-lowest size = by-order _ refl
+new-set-lowest size = by-order _ refl refl
 
 pub set-lowest : (s : TileBitset) → Lowest (setChecks s)
-set-lowest s = by-order _ refl
+set-lowest s = by-order _ refl refl
 
 pub sets-lowest : (s u : TileBitset) → Lowest (setsChecks s u)
-sets-lowest s u = by-order _ refl
+sets-lowest s u = by-order _ refl refl
 
 pub membership-lowest : (tile : List ℕ) (count : ℕ) → Lowest (membershipChecks tile count)
-membership-lowest tile count = by-order _ refl
+membership-lowest tile count = by-order _ refl refl
 
 pub extraction-lowest : (sample : List ℕ) (rows cols count : ℕ) (rotations reflections : Bool) (store : List ℕ) → Lowest (extractionChecks sample rows cols count rotations reflections store)
-extraction-lowest sample rows cols count rotations reflections store = by-order _ refl
+extraction-lowest sample rows cols count rotations reflections store = by-order _ refl refl
 
 -- ---- fit, forced neighbours, the queue, the scan
 
 pub listing-lowest : (pieces : List ℕ) (rows cols : ℕ) (tiles : List ℕ) (count : ℕ) (w : World) (o : Offset) → Lowest (listingChecks pieces rows cols tiles count w o)
-listing-lowest pieces rows cols tiles count w o = by-order _ refl
+listing-lowest pieces rows cols tiles count w o = by-order _ refl refl
 
 pub region-lowest : (pieces : List ℕ) (rows cols : ℕ) (tiles : List ℕ) (count : ℕ) (s : Cell) → Lowest (regionChecks pieces rows cols tiles count s)
-region-lowest pieces rows cols tiles count s = by-order _ refl
+region-lowest pieces rows cols tiles count s = by-order _ refl refl
 
 pub forced-lowest : (pieces : List ℕ) (rows cols : ℕ) (tiles : List ℕ) (count : ℕ) (w : World) (o : Offset) (b : GenerationBounds) → Lowest (forcedChecks pieces rows cols tiles count w o b)
-forced-lowest pieces rows cols tiles count w o b = by-order _ refl
+forced-lowest pieces rows cols tiles count w o b = by-order _ refl refl
 
 pub queue-lowest : (q : ForcedPipeline) → Lowest (queueChecks q)
-queue-lowest q = by-order _ refl
+queue-lowest q = by-order _ refl refl
 
 pub add-lowest : (q : ForcedPipeline) (p : ForcedPositions) → Lowest (addChecks q p)
-add-lowest q p = by-order _ refl
+add-lowest q p = by-order _ refl refl
 
 pub scan-lowest : (pieces weights : List ℕ) (rows cols : ℕ) (tiles : List ℕ) (count : ℕ) → Lowest (scanChecks pieces weights rows cols tiles count)
-scan-lowest pieces weights rows cols tiles count = by-order _ refl
+scan-lowest pieces weights rows cols tiles count = by-order _ refl refl
 
 -- ---- the board and its steps
 
 pub fresh-lowest : (rows cols tiles : ℕ) (b : Board) → Lowest (freshChecks rows cols tiles b)
-fresh-lowest rows cols tiles b = by-order _ refl
+fresh-lowest rows cols tiles b = by-order _ refl refl
 
-pub lay-lowest : (j : Job) (b : Board) (w : World) (colour : ℕ) → Lowest (layChecks j b w colour)
-lay-lowest j b w colour = by-order _ refl
+pub lay-lowest : (j : Panel) (count : ℕ) (b : Board) (w : World) (colour : ℕ) → Lowest (layChecks j count b w colour)
+lay-lowest j count b w colour = by-order _ refl refl
 
-pub lift-lowest : (j : Job) (b : Board) (w : World) → Lowest (liftChecks j b w)
-lift-lowest j b w = by-order _ refl
+pub lift-lowest : (j : Panel) (count : ℕ) (b : Board) (w : World) → Lowest (liftChecks j count b w)
+lift-lowest j count b w = by-order _ refl refl
 
 pub weight-lowest : (weights : List ℕ) (rows cols : ℕ) (w : World) (o : Offset) → Lowest (weightChecks weights rows cols w o)
-weight-lowest weights rows cols w o = by-order _ refl
+weight-lowest weights rows cols w o = by-order _ refl refl
 
 pub recount-lowest : (counts pieces : List ℕ) (rows cols : ℕ) (tiles : List ℕ) (count : ℕ) (w : World) (o : Offset) → Lowest (recountChecks counts pieces rows cols tiles count w o)
-recount-lowest counts pieces rows cols tiles count w o = by-order _ refl
+recount-lowest counts pieces rows cols tiles count w o = by-order _ refl refl
 
 -- ---- floats
 
 pub fraction-lowest : (counts : List ℕ) (rows cols tiles : ℕ) (k : Cell) → Lowest (fractionChecks counts rows cols tiles k)
-fraction-lowest counts rows cols tiles k = by-order _ refl
+fraction-lowest counts rows cols tiles k = by-order _ refl refl
 
 pub lay-score-lowest : (scores : List Float) (counts : List ℕ) (rows cols tiles : ℕ) (w : World) (o : Offset) → Lowest (layScoreChecks scores counts rows cols tiles w o)
-lay-score-lowest scores counts rows cols tiles w o = by-order _ refl
+lay-score-lowest scores counts rows cols tiles w o = by-order _ refl refl
 
 pub lift-score-lowest : (scores : List Float) (counts : List ℕ) (rows cols tiles : ℕ) (down across : Span) → Lowest (liftScoreChecks scores counts rows cols tiles down across)
-lift-score-lowest scores counts rows cols tiles down across = by-order _ refl
+lift-score-lowest scores counts rows cols tiles down across = by-order _ refl refl
 
 pub normalise-lowest : (ps : List Float) (rows cols count : ℕ) (w : World) (o : Offset) (out : List Float) → Lowest (normaliseChecks ps rows cols count w o out)
-normalise-lowest ps rows cols count w o out = by-order _ refl
+normalise-lowest ps rows cols count w o out = by-order _ refl refl
 
 pub influence-lowest : (ps : List Float) (rows cols count : ℕ) (b : Block) (w : World) (o : Offset) (radius : ℕ) → Lowest (influenceChecks ps rows cols count b w o radius)
-influence-lowest ps rows cols count b w o radius = by-order _ refl
+influence-lowest ps rows cols count b w o radius = by-order _ refl refl

@@ -6,22 +6,23 @@ use lib.Dec.{leb}
 use lib.ListN.{length, getD, set}
 use Rattle.base.specs.Counting.{pick, sum, within}
 use Rattle.base.specs.Tables.{tab}
-use Rattle.base.specs.Refusal.{Checks, accepted, _unless_or_, refusal, unlessRefused}
+use Rattle.base.specs.Refusal.{Checks, _unless_, _then_, refusal, unlessRefused}
 use Rattle.rules.specs.Bounds.{maxWeight, bare, SHAPE, LENGTH, CELL, TYPE, TAKEN, BARE}
 use Rattle.rules.specs.Tests.{boardSides, hasLength, wholeTiles, tilesIn, tileNumber, noneAbove}
 use Rattle.rules.specs.Answers.{layAnswer, liftAnswer}
-use Rattle.rules.specs.Grid.{Shape, flat, numberOf, laidOn}
+use Rattle.rules.specs.Places.{cellOf}
+use Rattle.rules.specs.Grid.{Shape, Kind, numberOf, laidOn}
 use Rattle.rules.specs.Fit.{pattern, fitCount, contentsChecks, placeChecks}
 use Rattle.rules.specs.declared.World.{World}
 use Rattle.rules.specs.declared.Offset.{Offset}
 use Rattle.rules.specs.declared.LayAnswer.{LayAnswer}
 use Rattle.rules.specs.declared.LiftAnswer.{LiftAnswer}
 
--- what a call is told beside the planes, its place and a colour
-pub record Job : Type 0 where
+-- "size, tiles and offset": what stays fixed from call to call, and how the grid of that size hangs together
+pub record Panel : Type 0 where
+  pub kind : Kind
   pub rows : ℕ
   pub cols : ℕ
-  pub count : ℕ
   pub tiles : List ℕ
   pub offset : Offset
 
@@ -30,11 +31,12 @@ pub record Board : Type 0 where
   pub weights : List ℕ
   pub counts : List ℕ
 
-abbrev pub shapeOf : Job → Shape
-shapeOf j = flat (j .rows) (j .cols)
+abbrev pub shapeOf : Panel → Shape
+shapeOf j = j .kind (j .rows) (j .cols)
 
-abbrev pub cellIn : Job → World → ℕ
-cellIn j w = numberOf (j .cols) w (j .offset)
+-- the number of the cell of a wall coordinate
+abbrev pub cellIn : Panel → World → ℕ
+cellIn j w = numberOf (j .cols) (cellOf w (j .offset))
 
 -- ---- what the standing pieces alone say
 
@@ -48,11 +50,11 @@ reach g j k = share (g .apart j k)
 
 -- each weight is 1, plus 3 per piece at most one cell away, plus 1 per piece exactly two away
 unfoldable pub weightsOf : Shape → List ℕ → List ℕ
-weightsOf g pieces = tab (g .cells) (λ k. 1 + sum (g .cells) (λ j. pick (laidOn pieces j) (reach g j k) 0))
+weightsOf g pieces = tab (length pieces) (λ k. 1 + sum (length pieces) (λ j. pick (laidOn pieces j) (reach g j k) 0))
 
 -- each count is the number of tiles that fit its region, or all tiles where the region passes the edge
 unfoldable pub countsOf : Shape → List ℕ → List ℕ → List ℕ
-countsOf g tiles pieces = tab (g .cells) (λ s. pick (g .whole s) (fitCount tiles (pattern g pieces s)) (tilesIn tiles))
+countsOf g tiles pieces = tab (length pieces) (λ s. pick (g .whole s) (fitCount tiles (pattern g pieces s)) (tilesIn tiles))
 
 unfoldable pub boardOf : Shape → List ℕ → List ℕ → Board
 boardOf g tiles pieces = record { pieces = pieces; weights = weightsOf g pieces; counts = countsOf g tiles pieces }
@@ -93,104 +95,89 @@ freshBoard cells tiles =
 -- ---- the calls
 
 -- the sides of a board, and the lengths of its planes
-abbrev pub boardLengths : ℕ → ℕ → Board → Checks → Checks
-boardLengths rows cols b more =
+abbrev pub boardLengths : ℕ → ℕ → Board → Checks
+boardLengths rows cols b =
     SHAPE unless boardSides rows cols
-    or LENGTH unless hasLength (b .pieces) (rows * cols)
-    or LENGTH unless hasLength (b .weights) (rows * cols)
-    or LENGTH unless hasLength (b .counts) (rows * cols)
-    or more
+    then LENGTH unless hasLength (b .pieces) (rows * cols)
+    then LENGTH unless hasLength (b .weights) (rows * cols)
+    then LENGTH unless hasLength (b .counts) (rows * cols)
 
 -- what its planes and tiles hold, of which there are n
-abbrev pub boardContents : List ℕ → ℕ → Board → ℕ → Checks → Checks
-boardContents tiles count b n more =
+abbrev pub boardContents : List ℕ → ℕ → Board → ℕ → Checks
+boardContents tiles count b n =
     contentsChecks tiles count (b .pieces)
-    (CELL unless noneAbove (b .weights) maxWeight
-    or CELL unless noneAbove (b .counts) n
-    or more)
+    then CELL unless noneAbove (b .weights) maxWeight
+    then CELL unless noneAbove (b .counts) n
 
-abbrev pub boardChecks : Job → Board → Checks → Checks
-boardChecks j b more =
+-- the checks of a board's planes, for a call that names so many colours
+abbrev pub boardChecks : Panel → ℕ → Board → Checks
+boardChecks j count b =
     boardLengths (j .rows) (j .cols) b
-    (LENGTH unless wholeTiles (j .tiles)
-    or boardContents (j .tiles) (j .count) b (tilesIn (j .tiles)) more)
+    then LENGTH unless wholeTiles (j .tiles)
+    then boardContents (j .tiles) count b (tilesIn (j .tiles))
 
 -- what a lay of a colour, and what a lift, asks of cell k
 abbrev pub layingChecks : List ℕ → ℕ → ℕ → ℕ → Checks
 layingChecks pieces k count colour =
     TYPE unless within 1 count colour
-    or TAKEN unless not (laidOn pieces k)
-    or accepted
+    then TAKEN unless not (laidOn pieces k)
 
 abbrev pub liftingChecks : List ℕ → ℕ → Checks
-liftingChecks pieces k = BARE unless laidOn pieces k or accepted
+liftingChecks pieces k = BARE unless laidOn pieces k
 
-abbrev pub layChecks : Job → Board → World → ℕ → Checks
-layChecks j b w colour =
-    boardChecks j b
-    (placeChecks (j .rows) (j .cols) w (j .offset)
-    (layingChecks (b .pieces) (cellIn j w) (j .count) colour))
+abbrev pub layChecks : Panel → ℕ → Board → World → ℕ → Checks
+layChecks j count b w colour =
+    boardChecks j count b
+    then placeChecks (j .rows) (j .cols) w (j .offset)
+    then layingChecks (b .pieces) (cellIn j w) count colour
 
-abbrev pub liftChecks : Job → Board → World → Checks
-liftChecks j b w = boardChecks j b (placeChecks (j .rows) (j .cols) w (j .offset) (liftingChecks (b .pieces) (cellIn j w)))
+abbrev pub liftChecks : Panel → ℕ → Board → World → Checks
+liftChecks j count b w =
+    boardChecks j count b
+    then placeChecks (j .rows) (j .cols) w (j .offset)
+    then liftingChecks (b .pieces) (cellIn j w)
 
 -- what a lay and a lift answer
-abbrev pub laying : Job → Board → World → ℕ → LayAnswer
-laying j b w colour = layAnswer (refusal (layChecks j b w colour))
+abbrev pub laying : Panel → ℕ → Board → World → ℕ → LayAnswer
+laying j count b w colour = layAnswer (refusal (layChecks j count b w colour))
 
-abbrev pub lifting : Job → Board → World → LiftAnswer
-lifting j b w = liftAnswer (refusal (liftChecks j b w))
+abbrev pub lifting : Panel → ℕ → Board → World → LiftAnswer
+lifting j count b w = liftAnswer (refusal (liftChecks j count b w))
 
 -- the board that a call leaves; a refused call changes nothing
-unfoldable pub afterLay : Job → Board → World → ℕ → Board
-afterLay j b w colour = unlessRefused (refusal (layChecks j b w colour)) (laid (shapeOf j) (j .tiles) b (cellIn j w) colour) b
+unfoldable pub afterLay : Panel → ℕ → Board → World → ℕ → Board
+afterLay j count b w colour =
+    unlessRefused (refusal (layChecks j count b w colour)) (laid (shapeOf j) (j .tiles) b (cellIn j w) colour) b
 
-unfoldable pub afterLift : Job → Board → World → Board
-afterLift j b w = unlessRefused (refusal (liftChecks j b w)) (lifted (shapeOf j) (j .tiles) b (cellIn j w)) b
+unfoldable pub afterLift : Panel → ℕ → Board → World → Board
+afterLift j count b w = unlessRefused (refusal (liftChecks j count b w)) (lifted (shapeOf j) (j .tiles) b (cellIn j w)) b
 
 abbrev pub freshChecks : ℕ → ℕ → ℕ → Board → Checks
-freshChecks rows cols tiles b = boardLengths rows cols b (LENGTH unless tileNumber tiles or accepted)
+freshChecks rows cols tiles b = boardLengths rows cols b then LENGTH unless tileNumber tiles
 
 unfoldable pub afterFresh : ℕ → ℕ → ℕ → Board → Board
 afterFresh rows cols tiles b = unlessRefused (refusal (freshChecks rows cols tiles b)) (freshBoard (rows * cols) tiles) b
 
 -- the ported steps of their own: weights up and down, and the recount
-abbrev pub weightPlaneChecks : List ℕ → ℕ → ℕ → Checks → Checks
-weightPlaneChecks weights rows cols more =
+abbrev pub weightPlaneChecks : List ℕ → ℕ → ℕ → Checks
+weightPlaneChecks weights rows cols =
     SHAPE unless boardSides rows cols
-    or LENGTH unless hasLength weights (rows * cols)
-    or CELL unless noneAbove weights maxWeight
-    or more
+    then LENGTH unless hasLength weights (rows * cols)
+    then CELL unless noneAbove weights maxWeight
 
 abbrev pub weightChecks : List ℕ → ℕ → ℕ → World → Offset → Checks
-weightChecks weights rows cols w o = weightPlaneChecks weights rows cols (placeChecks rows cols w o accepted)
+weightChecks weights rows cols w o = weightPlaneChecks weights rows cols then placeChecks rows cols w o
 
-unfoldable pub afterRaise : List ℕ → ℕ → ℕ → World → Offset → List ℕ
-afterRaise weights rows cols w o =
-    unlessRefused (refusal (weightChecks weights rows cols w o)) (raised (flat rows cols) (numberOf cols w o) weights) weights
+abbrev pub countedContents : List ℕ → ℕ → List ℕ → List ℕ → ℕ → Checks
+countedContents tiles count pieces counts n = contentsChecks tiles count pieces then CELL unless noneAbove counts n
 
-unfoldable pub afterLower : List ℕ → ℕ → ℕ → World → Offset → List ℕ
-afterLower weights rows cols w o =
-    unlessRefused (refusal (weightChecks weights rows cols w o)) (lowered (flat rows cols) (numberOf cols w o) weights) weights
-
-abbrev pub countedContents : List ℕ → ℕ → List ℕ → List ℕ → ℕ → Checks → Checks
-countedContents tiles count pieces counts n more = contentsChecks tiles count pieces (CELL unless noneAbove counts n or more)
-
-abbrev pub countedPlanes : List ℕ → List ℕ → ℕ → ℕ → List ℕ → ℕ → Checks → Checks
-countedPlanes counts pieces rows cols tiles count more =
+abbrev pub countedPlanes : List ℕ → List ℕ → ℕ → ℕ → List ℕ → ℕ → Checks
+countedPlanes counts pieces rows cols tiles count =
     SHAPE unless boardSides rows cols
-    or LENGTH unless hasLength counts (rows * cols)
-    or LENGTH unless hasLength pieces (rows * cols)
-    or LENGTH unless wholeTiles tiles
-    or countedContents tiles count pieces counts (tilesIn tiles) more
+    then LENGTH unless hasLength counts (rows * cols)
+    then LENGTH unless hasLength pieces (rows * cols)
+    then LENGTH unless wholeTiles tiles
+    then countedContents tiles count pieces counts (tilesIn tiles)
 
 abbrev pub recountChecks : List ℕ → List ℕ → ℕ → ℕ → List ℕ → ℕ → World → Offset → Checks
-recountChecks counts pieces rows cols tiles count w o =
-    countedPlanes counts pieces rows cols tiles count (placeChecks rows cols w o accepted)
-
-unfoldable pub afterRecount : List ℕ → List ℕ → ℕ → ℕ → List ℕ → ℕ → World → Offset → List ℕ
-afterRecount counts pieces rows cols tiles count w o =
-    unlessRefused
-    (refusal (recountChecks counts pieces rows cols tiles count w o))
-    (recounted (flat rows cols) tiles pieces (numberOf cols w o) counts)
-    counts
+recountChecks counts pieces rows cols tiles count w o = countedPlanes counts pieces rows cols tiles count then placeChecks rows cols w o

@@ -2,15 +2,16 @@
 use Prim.Native.Nat.{ℕ, _+_, _*_}
 use mathlib.Core.Bool.{Bool, not, _&&_, _||_}
 use mathlib.Core.List.{List, [], _∷_}
-use lib.Dec.{ltb, eqb}
+use lib.Dec.{eqb}
 use lib.ListN.{getD}
 use Rattle.base.specs.Counting.{every, some, tally}
-use Rattle.base.specs.Refusal.{Checks, accepted, _unless_or_, refusal}
+use Rattle.base.specs.Refusal.{Checks, _unless_, _then_, refusal}
 use Rattle.rules.specs.Bounds.{tileCells, SHAPE, LENGTH, COUNT, CELL, PLACE}
 use Rattle.rules.specs.Tests.{boardSides, hasLength, wholeTiles, tilesIn, colourCount, noneAbove, piecesStored, onWall, offsetFits, onBoard}
 use Rattle.rules.specs.Answers.{listingAnswer, numberAnswer}
 use Rattle.rules.specs.Sets.{setOf}
-use Rattle.rules.specs.Grid.{Shape, flat, numberOf, colourOn}
+use Rattle.rules.specs.Places.{cellOf}
+use Rattle.rules.specs.Grid.{Shape, Kind, numberOf, onGrid, colourOn}
 use Rattle.rules.specs.declared.World.{World}
 use Rattle.rules.specs.declared.Offset.{Offset}
 use Rattle.rules.specs.declared.Cell.{Cell}
@@ -63,48 +64,45 @@ abbrev pub lists : Shape → List ℕ → List ℕ → ℕ → ℕ → Bool
 lists g tiles pieces k t = leftAfter g tiles pieces k 9 t
 
 -- the checks of every call that reads pieces and tiles: what they hold, after their lengths
-abbrev pub contentsChecks : List ℕ → ℕ → List ℕ → Checks → Checks
-contentsChecks tiles count pieces more =
+abbrev pub contentsChecks : List ℕ → ℕ → List ℕ → Checks
+contentsChecks tiles count pieces =
     COUNT unless colourCount count
-    or CELL unless noneAbove tiles count
-    or CELL unless piecesStored pieces count
-    or more
+    then CELL unless noneAbove tiles count
+    then CELL unless piecesStored pieces count
 
-abbrev pub piecesChecks : List ℕ → ℕ → ℕ → List ℕ → ℕ → Checks → Checks
-piecesChecks pieces rows cols tiles count more =
+abbrev pub piecesChecks : List ℕ → ℕ → ℕ → List ℕ → ℕ → Checks
+piecesChecks pieces rows cols tiles count =
     SHAPE unless boardSides rows cols
-    or LENGTH unless hasLength pieces (rows * cols)
-    or LENGTH unless wholeTiles tiles
-    or contentsChecks tiles count pieces more
+    then LENGTH unless hasLength pieces (rows * cols)
+    then LENGTH unless wholeTiles tiles
+    then contentsChecks tiles count pieces
 
 -- the checks of a place that has to lie on the board
-abbrev pub placeChecks : ℕ → ℕ → World → Offset → Checks → Checks
-placeChecks rows cols w o more =
+abbrev pub placeChecks : ℕ → ℕ → World → Offset → Checks
+placeChecks rows cols w o =
     PLACE unless onWall w
-    or PLACE unless offsetFits o
-    or PLACE unless onBoard rows cols w o
-    or more
+    then PLACE unless offsetFits o
+    then PLACE unless onBoard rows cols w o
 
 abbrev pub listingChecks : List ℕ → ℕ → ℕ → List ℕ → ℕ → World → Offset → Checks
-listingChecks pieces rows cols tiles count w o = piecesChecks pieces rows cols tiles count (placeChecks rows cols w o accepted)
+listingChecks pieces rows cols tiles count w o = piecesChecks pieces rows cols tiles count then placeChecks rows cols w o
 
 -- what a listing of cell k finds
 abbrev pub foundAt : Shape → List ℕ → List ℕ → ℕ → ℕ → TileBitset
 foundAt g tiles pieces count k = setOf count (lists g tiles pieces k)
 
-unfoldable pub listing : List ℕ → ℕ → ℕ → List ℕ → ℕ → World → Offset → Listing
-listing pieces rows cols tiles count w o =
+unfoldable pub listing : Kind → List ℕ → ℕ → ℕ → List ℕ → ℕ → World → Offset → Listing
+listing kind pieces rows cols tiles count w o =
     listingAnswer
     (refusal (listingChecks pieces rows cols tiles count w o))
-    (foundAt (flat rows cols) tiles pieces count (numberOf cols w o))
+    (foundAt (kind rows cols) tiles pieces count (numberOf cols (cellOf w o)))
 
 abbrev pub regionChecks : List ℕ → ℕ → ℕ → List ℕ → ℕ → Cell → Checks
-regionChecks pieces rows cols tiles count s =
-    piecesChecks pieces rows cols tiles count (PLACE unless ltb (s .0) rows && ltb (s .1) cols or accepted)
+regionChecks pieces rows cols tiles count s = piecesChecks pieces rows cols tiles count then PLACE unless onGrid rows cols s
 
 -- the number of tiles that fit the region that starts at a cell; past the edge it is bare
-unfoldable pub regionCount : List ℕ → ℕ → ℕ → List ℕ → ℕ → Cell → Number
-regionCount pieces rows cols tiles count s =
+unfoldable pub regionCount : Kind → List ℕ → ℕ → ℕ → List ℕ → ℕ → Cell → Number
+regionCount kind pieces rows cols tiles count s =
     numberAnswer
     (refusal (regionChecks pieces rows cols tiles count s))
-    (fitCount tiles (pattern (flat rows cols) pieces (s .0 * cols + s .1)))
+    (fitCount tiles (pattern (kind rows cols) pieces (numberOf cols s)))

@@ -7,13 +7,13 @@ use lib.ListN.{length, getD, take, drop, replicate}
 use lib.IntN.{pos, _+ℤ_, _-ℤ_}
 use Rattle.base.specs.Counting.{pick, first}
 use Rattle.base.specs.Tables.{those, fold}
-use Rattle.base.specs.Refusal.{Checks, accepted, _unless_or_, refusal, unlessRefused}
+use Rattle.base.specs.Refusal.{Checks, _unless_, _then_, refusal, unlessRefused}
 use Rattle.rules.specs.Bounds.{maxWeight, queueRoom, addedRoom, SHAPE, LENGTH, CELL, PLACE, ROOM}
 use Rattle.rules.specs.Tests.{boardSides, hasLength, wholeTiles, noneAbove, onWall, onBoard}
 use Rattle.rules.specs.Answers.{verdictAnswer, numberAnswer, writtenAnswer, deadEndAnswer, nextAnswer}
-use Rattle.rules.specs.Places.{samePlace, inBox, boxFits}
+use Rattle.rules.specs.Places.{cellOf, samePlace, inBox, boxFits}
 use Rattle.rules.specs.Sets.{coloursOf}
-use Rattle.rules.specs.Grid.{Shape, flat, numberOf, laidOn}
+use Rattle.rules.specs.Grid.{Shape, Kind, numberOf, cellWith, laidOn}
 use Rattle.rules.specs.Fit.{lists, contentsChecks, piecesChecks, placeChecks}
 use Rattle.rules.specs.declared.World.{World}
 use Rattle.rules.specs.declared.Offset.{Offset}
@@ -60,19 +60,19 @@ unfoldable pub forcesOne : Shape → List ℕ → List ℕ → ℕ → ℕ → B
 forcesOne g tiles pieces count k = not (laidOn pieces k) && eqb (length (listedAt g tiles pieces count k)) 1
 
 -- omitted are those outside the box or the grid, those laid, and those with other than one listed colour
-unfoldable pub isForced : List ℕ → ℕ → ℕ → List ℕ → ℕ → World → Offset → GenerationBounds → Bool
-isForced pieces rows cols tiles count w o b =
-    admits b w && onBoard rows cols w o && forcesOne (flat rows cols) tiles pieces count (numberOf cols w o)
+unfoldable pub isForced : Kind → List ℕ → ℕ → ℕ → List ℕ → ℕ → World → Offset → GenerationBounds → Bool
+isForced kind pieces rows cols tiles count w o b =
+    admits b w && onBoard rows cols w o && forcesOne (kind rows cols) tiles pieces count (numberOf cols (cellOf w o))
 
-unfoldable pub forcedThere : List ℕ → ℕ → ℕ → List ℕ → ℕ → World → Offset → ForcedPosition
-forcedThere pieces rows cols tiles count w o =
-    record { coordinates = w; colour = only (listedAt (flat rows cols) tiles pieces count (numberOf cols w o)) }
+unfoldable pub forcedThere : Kind → List ℕ → ℕ → ℕ → List ℕ → ℕ → World → Offset → ForcedPosition
+forcedThere kind pieces rows cols tiles count w o =
+    record { coordinates = w; colour = only (listedAt (kind rows cols) tiles pieces count (numberOf cols (cellOf w o))) }
 
 -- the eight neighbours row by row
-unfoldable pub forcedRound : List ℕ → ℕ → ℕ → List ℕ → ℕ → World → Offset → GenerationBounds → List ForcedPosition
-forcedRound pieces rows cols tiles count w o b =
-    those 9 (λ d. not (eqb d 4) && isForced pieces rows cols tiles count (neighbour w d) o b)
-    (λ d. forcedThere pieces rows cols tiles count (neighbour w d) o)
+unfoldable pub forcedRound : Kind → List ℕ → ℕ → ℕ → List ℕ → ℕ → World → Offset → GenerationBounds → List ForcedPosition
+forcedRound kind pieces rows cols tiles count w o b =
+    those 9 (λ d. not (eqb d 4) && isForced kind pieces rows cols tiles count (neighbour w d) o b)
+    (λ d. forcedThere kind pieces rows cols tiles count (neighbour w d) o)
 
 -- Unused entries are 0
 abbrev pub noPosition : ForcedPosition
@@ -85,16 +85,16 @@ unfoldable pub positionsOf : List ForcedPosition → ForcedPositions
 positionsOf l = record { entries = padded addedRoom l; len = length l }
 
 abbrev pub boundsChecks : GenerationBounds → Checks
-boundsChecks b = PLACE unless boundsFit b or accepted
+boundsChecks b = PLACE unless boundsFit b
 
 abbrev pub forcedChecks : List ℕ → ℕ → ℕ → List ℕ → ℕ → World → Offset → GenerationBounds → Checks
 forcedChecks pieces rows cols tiles count w o b =
-    piecesChecks pieces rows cols tiles count (placeChecks rows cols w o (boundsChecks b))
+    piecesChecks pieces rows cols tiles count then placeChecks rows cols w o then boundsChecks b
 
-unfoldable pub forcedNeighbours : List ℕ → ℕ → ℕ → List ℕ → ℕ → World → Offset → GenerationBounds → ForcedAnswer
-forcedNeighbours pieces rows cols tiles count w o b =
+unfoldable pub forcedNeighbours : Kind → List ℕ → ℕ → ℕ → List ℕ → ℕ → World → Offset → GenerationBounds → ForcedAnswer
+forcedNeighbours kind pieces rows cols tiles count w o b =
     let n : ℕ = refusal (forcedChecks pieces rows cols tiles count w o b) in
-    record { refused = n; found = positionsOf (unlessRefused n (forcedRound pieces rows cols tiles count w o b) []) }
+    record { refused = n; found = positionsOf (unlessRefused n (forcedRound kind pieces rows cols tiles count w o b) []) }
 
 -- ---- the queue: first in, first out. Its entries stand from entry 0, next out first; those past its length are not read
 
@@ -126,24 +126,22 @@ allOnWall (e ∷ l) = onWall (e .coordinates) && allOnWall l
 abbrev pub queueChecks : ForcedPipeline → Checks
 queueChecks q =
     SHAPE unless leb (q .len) queueRoom
-    or PLACE unless allOnWall (queued q)
-    or accepted
+    then PLACE unless allOnWall (queued q)
 
 -- what an adding checks on entry, before it knows how many places are new
-abbrev pub entryChecks : ForcedPipeline → ForcedPositions → Checks → Checks
-entryChecks q p more =
+abbrev pub entryChecks : ForcedPipeline → ForcedPositions → Checks
+entryChecks q p =
     SHAPE unless leb (q .len) queueRoom
-    or SHAPE unless leb (p .len) addedRoom
-    or PLACE unless allOnWall (queued q)
-    or PLACE unless allOnWall (offered p)
-    or more
+    then SHAPE unless leb (p .len) addedRoom
+    then PLACE unless allOnWall (queued q)
+    then PLACE unless allOnWall (offered p)
 
 -- then ROOM, for a queue of these entries
 abbrev pub roomChecks : List ForcedPosition → Checks
-roomChecks l = ROOM unless leb (length l) queueRoom or accepted
+roomChecks l = ROOM unless leb (length l) queueRoom
 
 abbrev pub addChecks : ForcedPipeline → ForcedPositions → Checks
-addChecks q p = entryChecks q p (roomChecks (withPositions (queued q) (offered p)))
+addChecks q p = entryChecks q p then roomChecks (withPositions (queued q) (offered p))
 
 unfoldable pub grownBy : ForcedPipeline → ForcedPositions → Grown
 grownBy q p =
@@ -168,22 +166,21 @@ unfoldable pub deadAt : Shape → List ℕ → List ℕ → List ℕ → ℕ →
 deadAt g tiles pieces weights count k =
     not (laidOn pieces k) && ltb 1 (getD weights k 0) && eqb (length (listedAt g tiles pieces count k)) 0
 
-abbrev pub scanLengths : List ℕ → List ℕ → ℕ → ℕ → List ℕ → Checks → Checks
-scanLengths pieces weights rows cols tiles more =
+abbrev pub scanLengths : List ℕ → List ℕ → ℕ → ℕ → List ℕ → Checks
+scanLengths pieces weights rows cols tiles =
     SHAPE unless boardSides rows cols
-    or LENGTH unless hasLength pieces (rows * cols)
-    or LENGTH unless hasLength weights (rows * cols)
-    or LENGTH unless wholeTiles tiles
-    or more
+    then LENGTH unless hasLength pieces (rows * cols)
+    then LENGTH unless hasLength weights (rows * cols)
+    then LENGTH unless wholeTiles tiles
 
 abbrev pub scanChecks : List ℕ → List ℕ → ℕ → ℕ → List ℕ → ℕ → Checks
 scanChecks pieces weights rows cols tiles count =
-    scanLengths pieces weights rows cols tiles (contentsChecks tiles count pieces (CELL unless noneAbove weights maxWeight or accepted))
+    scanLengths pieces weights rows cols tiles then contentsChecks tiles count pieces then CELL unless noneAbove weights maxWeight
 
-unfoldable pub deadEnd : List ℕ → List ℕ → ℕ → ℕ → List ℕ → ℕ → DeadEnd
-deadEnd pieces weights rows cols tiles count =
-    let k : ℕ = first (rows * cols) (deadAt (flat rows cols) tiles pieces weights count) in
+unfoldable pub deadEnd : Kind → List ℕ → List ℕ → ℕ → ℕ → List ℕ → ℕ → DeadEnd
+deadEnd kind pieces weights rows cols tiles count =
+    let k : ℕ = first (rows * cols) (deadAt (kind rows cols) tiles pieces weights count) in
     deadEndAnswer
     (refusal (scanChecks pieces weights rows cols tiles count))
     (ltb k (rows * cols))
-    (record { 0 = k / cols; 1 = k % cols })
+    (cellWith cols k)

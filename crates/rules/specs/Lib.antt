@@ -1,13 +1,14 @@
 pub mod Bounds
 pub mod Tests
 pub mod Answers
+pub mod Grid
 pub mod Places
 pub mod Sets
 pub mod Tiles
-pub mod Grid
 pub mod Fit
 pub mod Forced
 pub mod Floats
 pub mod Scores
 pub mod Probabilities
 pub mod Board
+pub mod Promises

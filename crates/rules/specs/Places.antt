@@ -10,9 +10,10 @@ use lib.Ieee.{Float, nan}
 use Rattle.base.specs.Counting.{pick}
 use Rattle.base.specs.Tables.{tab}
 use Rattle.base.specs.Whole.{clip, eqZ}
-use Rattle.base.specs.Refusal.{Checks, accepted, _unless_or_, refusal, unlessRefused}
+use Rattle.base.specs.Refusal.{Checks, _unless_, _then_, refusal}
 use Rattle.rules.specs.Bounds.{maxRadius, SHAPE, LENGTH, NUMBER, PLACE}
 use Rattle.rules.specs.Tests.{boardSides, hasLength, rowIndex, colIndex, onWall, offsetFits}
+use Rattle.rules.specs.Grid.{cellAt, numberOf}
 use Rattle.rules.specs.Answers.{spanAnswer, verdictAnswer, extensionAnswer}
 use Rattle.rules.specs.Floats.{one64, isNumber, allAre}
 use Rattle.rules.specs.declared.World.{World}
@@ -28,7 +29,7 @@ use Rattle.rules.specs.declared.ExtensionAnswer.{ExtensionAnswer}
 
 -- the cell of a wall coordinate; one above or left of the grid has none, and 0 stands for its index
 unfoldable pub cellOf : World → Offset → Cell
-cellOf w o = record { 0 = clip (rowIndex w o); 1 = clip (colIndex w o) }
+cellOf w o = cellAt (clip (rowIndex w o)) (clip (colIndex w o))
 
 unfoldable pub samePlace : World → World → Bool
 samePlace w v = eqZ (w .0) (v .0) && eqZ (w .1) (v .1)
@@ -40,9 +41,8 @@ spanOf x k = record { 0 = clip (x -ℤ pos k); 1 = clip ((x +ℤ pos k) +ℤ pos
 abbrev pub spanChecks : Offset → World → ℕ → Checks
 spanChecks o w k =
     SHAPE unless leb k maxRadius
-    or PLACE unless onWall w
-    or PLACE unless offsetFits o
-    or accepted
+    then PLACE unless onWall w
+    then PLACE unless offsetFits o
 
 unfoldable pub regionSpans : Offset → World → ℕ → SpanAnswer
 regionSpans o w k = spanAnswer (refusal (spanChecks o w k)) (spanOf (rowIndex w o) k) (spanOf (colIndex w o) k)
@@ -55,7 +55,7 @@ abbrev pub boxFits : BoundingBox → Bool
 boxFits b = onWall (b .min) && onWall (b .max)
 
 abbrev pub boxChecks : BoundingBox → World → Checks
-boxChecks b w = PLACE unless boxFits b or PLACE unless onWall w or accepted
+boxChecks b w = PLACE unless boxFits b then PLACE unless onWall w
 
 unfoldable pub boxContains : BoundingBox → World → Verdict
 boxContains b w = verdictAnswer (refusal (boxChecks b w)) (inBox b w)
@@ -109,20 +109,15 @@ extensionBy o p =
       needed = ltb 0 (((p .left + p .right) + p .top) + p .bottom);
     }
 
-abbrev pub extensionChecks : ℕ → ℕ → Offset → World → ℕ → Checks → Checks
-extensionChecks rows cols o w k more =
-    SHAPE unless boardSides rows cols
-    or SHAPE unless leb k maxRadius
-    or PLACE unless onWall w
-    or PLACE unless offsetFits o
-    or more
+abbrev pub extensionChecks : ℕ → ℕ → Offset → World → ℕ → Checks
+extensionChecks rows cols o w k = SHAPE unless boardSides rows cols then spanChecks o w k
 
 unfoldable pub extensionOf : ℕ → ℕ → Offset → World → ℕ → ExtensionAnswer
 extensionOf rows cols o w k =
-    extensionAnswer (refusal (extensionChecks rows cols o w k accepted)) (extensionBy o (padsOf rows cols o w k))
+    extensionAnswer (refusal (extensionChecks rows cols o w k)) (extensionBy o (padsOf rows cols o w k))
 
 abbrev pub boxedExtensionChecks : ℕ → ℕ → Offset → World → ℕ → BoundingBox → Checks
-boxedExtensionChecks rows cols o w k b = extensionChecks rows cols o w k (PLACE unless boxFits b or accepted)
+boxedExtensionChecks rows cols o w k b = extensionChecks rows cols o w k then PLACE unless boxFits b
 
 unfoldable pub boxedExtension : ℕ → ℕ → Offset → World → ℕ → BoundingBox → ExtensionAnswer
 boxedExtension rows cols o w k b =
@@ -141,34 +136,20 @@ newCols cols p = (p .top + cols) + p .bottom
 unfoldable pub copiedCell : {A : Type 0} → A → A → List A → ℕ → ℕ → Pads → ℕ → ℕ → A
 copiedCell none fill plane rows cols p r c =
     pick (leb (p .left) r && ltb (r - p .left) rows && leb (p .top) c && ltb (c - p .top) cols)
-    (getD plane ((r - p .left) * cols + (c - p .top)) none)
+    (getD plane (numberOf cols (cellAt (r - p .left) (c - p .top))) none)
     fill
 
 unfoldable pub copied : {A : Type 0} → A → A → List A → ℕ → ℕ → Pads → List A
 copied none fill plane rows cols p =
     tab (newRows rows p * newCols cols p) (λ k. copiedCell none fill plane rows cols p (k / newCols cols p) (k % newCols cols p))
 
-abbrev pub copyChecks : {A : Type 0} → List A → ℕ → ℕ → Pads → List A → Checks → Checks
-copyChecks plane rows cols p target more =
+-- a copy of numbers takes any, one of floats has NUMBER
+abbrev pub copyChecks : {A : Type 0} → List A → ℕ → ℕ → Pads → List A → Checks
+copyChecks plane rows cols p target =
     SHAPE unless boardSides rows cols
-    or SHAPE unless boardSides (newRows rows p) (newCols cols p)
-    or LENGTH unless hasLength plane (rows * cols)
-    or LENGTH unless hasLength target (newRows rows p * newCols cols p)
-    or more
-
--- the target that a copy leaves
-unfoldable pub afterCopy : {A : Type 0} → A → A → List A → ℕ → ℕ → Pads → List A → Checks → List A
-afterCopy none fill plane rows cols p target checks = unlessRefused (refusal checks) (copied none fill plane rows cols p) target
-
--- a copy of numbers takes any, one of floats has NUMBER; both fill new cells with 1
-abbrev pub wordCopyChecks : List ℕ → ℕ → ℕ → Pads → List ℕ → Checks
-wordCopyChecks plane rows cols p target = copyChecks plane rows cols p target accepted
+    then SHAPE unless boardSides (newRows rows p) (newCols cols p)
+    then LENGTH unless hasLength plane (rows * cols)
+    then LENGTH unless hasLength target (newRows rows p * newCols cols p)
 
 abbrev pub floatCopyChecks : List Float → ℕ → ℕ → Pads → List Float → Checks
-floatCopyChecks plane rows cols p target = copyChecks plane rows cols p target (NUMBER unless allAre isNumber plane or accepted)
-
-abbrev pub afterWordCopy : List ℕ → ℕ → ℕ → Pads → List ℕ → List ℕ
-afterWordCopy plane rows cols p target = afterCopy 0 1 plane rows cols p target (wordCopyChecks plane rows cols p target)
-
-abbrev pub afterFloatCopy : List Float → ℕ → ℕ → Pads → List Float → List Float
-afterFloatCopy plane rows cols p target = afterCopy nan one64 plane rows cols p target (floatCopyChecks plane rows cols p target)
+floatCopyChecks plane rows cols p target = copyChecks plane rows cols p target then NUMBER unless allAre isNumber plane

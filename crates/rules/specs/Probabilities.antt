@@ -7,11 +7,11 @@ use lib.ListN.{length, getD}
 use lib.Ieee.{Float, nan, lt, ne}
 use Rattle.base.specs.Counting.{pick, within}
 use Rattle.base.specs.Tables.{tab, fold}
-use Rattle.base.specs.Refusal.{Checks, accepted, _unless_or_}
+use Rattle.base.specs.Refusal.{Checks, _unless_, _then_}
 use Rattle.rules.specs.Bounds.{maxRadius, maxInfluenceSide, SHAPE, LENGTH, COUNT, NUMBER, PLACE}
 use Rattle.rules.specs.Tests.{boardSides, hasLength, colourCount, rowIndex, colIndex, onWall, offsetFits, onBoard}
-use Rattle.rules.specs.Places.{spanOf}
-use Rattle.rules.specs.Grid.{numberOf}
+use Rattle.rules.specs.Places.{cellOf, spanOf}
+use Rattle.rules.specs.Grid.{cellAt, numberOf}
 use Rattle.rules.specs.Fit.{placeChecks}
 use Rattle.rules.specs.Floats.{zero64, one64, inf64, plus, times, over, floatOf, isNumber, isFinite, allAre}
 use Rattle.rules.specs.Scores.{inSpan}
@@ -49,18 +49,17 @@ normalised ps =
 -- the probabilities of a place, colour by colour; one off the board counts as all zeros
 unfoldable pub probabilitiesAt : List Float → ℕ → ℕ → ℕ → World → Offset → List Float
 probabilitiesAt plane rows cols count w o =
-    tab count (λ t. pick (onBoard rows cols w o) (getD plane (t * (rows * cols) + numberOf cols w o) nan) zero64)
+    tab count (λ t. pick (onBoard rows cols w o) (getD plane (t * (rows * cols) + numberOf cols (cellOf w o)) nan) zero64)
 
 abbrev pub normaliseChecks : List Float → ℕ → ℕ → ℕ → World → Offset → List Float → Checks
 normaliseChecks plane rows cols count w o out =
     SHAPE unless boardSides rows cols
-    or LENGTH unless hasLength plane (count * (rows * cols))
-    or LENGTH unless hasLength out count
-    or COUNT unless colourCount count
-    or NUMBER unless allAre isNumber plane
-    or PLACE unless onWall w
-    or PLACE unless offsetFits o
-    or accepted
+    then LENGTH unless hasLength plane (count * (rows * cols))
+    then LENGTH unless hasLength out count
+    then COUNT unless colourCount count
+    then NUMBER unless allAre isNumber plane
+    then PLACE unless onWall w
+    then PLACE unless offsetFits o
 
 -- ---- the product step and its reverse
 
@@ -90,7 +89,7 @@ abbrev pub inBlock : Region → Block → ℕ → ℕ → Bool
 inBlock g b r c = ltb (r - g .rows .0) (b .rows) && ltb (c - g .cols .0) (b .cols)
 
 unfoldable pub influence : Region → Block → ℕ → ℕ → ℕ → Float
-influence g b t r c = getD (b .entries) (t * (b .rows * b .cols) + ((r - g .rows .0) * b .cols + (c - g .cols .0))) nan
+influence g b t r c = getD (b .entries) (t * (b .rows * b .cols) + numberOf (b .cols) (cellAt (r - g .rows .0) (c - g .cols .0))) nan
 
 -- beyond the block the factor is 1.0
 unfoldable pub productAt : Region → Block → Float → ℕ → ℕ → ℕ → Float
@@ -113,19 +112,18 @@ multiplied rows cols b w o k plane = changedBy rows cols (productAt (regionOf ro
 unfoldable pub divided : ℕ → ℕ → Block → World → Offset → ℕ → List Float → List Float
 divided rows cols b w o k plane = changedBy rows cols (quotientAt (regionOf rows cols w o k) b) plane
 
-abbrev pub influenceSizes : List Float → ℕ → ℕ → ℕ → Block → ℕ → Checks → Checks
-influenceSizes plane rows cols count b k more =
+abbrev pub influenceSizes : List Float → ℕ → ℕ → ℕ → Block → ℕ → Checks
+influenceSizes plane rows cols count b k =
     SHAPE unless boardSides rows cols
-    or SHAPE unless within 1 maxInfluenceSide (b .rows) && within 1 maxInfluenceSide (b .cols)
-    or SHAPE unless leb k maxRadius
-    or LENGTH unless hasLength plane (count * (rows * cols))
-    or LENGTH unless hasLength (b .entries) (count * (b .rows * b .cols))
-    or COUNT unless colourCount count
-    or more
+    then SHAPE unless within 1 maxInfluenceSide (b .rows) && within 1 maxInfluenceSide (b .cols)
+    then SHAPE unless leb k maxRadius
+    then LENGTH unless hasLength plane (count * (rows * cols))
+    then LENGTH unless hasLength (b .entries) (count * (b .rows * b .cols))
+    then COUNT unless colourCount count
 
 abbrev pub influenceChecks : List Float → ℕ → ℕ → ℕ → Block → World → Offset → ℕ → Checks
 influenceChecks plane rows cols count b w o k =
     influenceSizes plane rows cols count b k
-    (NUMBER unless allAre isFinite plane
-    or NUMBER unless allAre isFinite (b .entries)
-    or placeChecks rows cols w o accepted)
+    then NUMBER unless allAre isFinite plane
+    then NUMBER unless allAre isFinite (b .entries)
+    then placeChecks rows cols w o

@@ -6,12 +6,14 @@ use lib.Dec.{leb, ltb}
 use lib.ListN.{length, getD}
 use lib.Ieee.{Float, nan}
 use Rattle.base.specs.Counting.{pick}
+use Rattle.base.specs.Regions.{between}
 use Rattle.base.specs.Tables.{tab, those, fold}
-use Rattle.base.specs.Refusal.{Checks, accepted, _unless_or_, refusal}
+use Rattle.base.specs.Refusal.{Checks, _unless_, _then_, refusal}
 use Rattle.rules.specs.Bounds.{SHAPE, LENGTH, CELL, NUMBER, PLACE}
 use Rattle.rules.specs.Tests.{boardSides, hasLength, tileNumber, noneAbove, rowIndex, colIndex}
 use Rattle.rules.specs.Answers.{fractionAnswer}
 use Rattle.rules.specs.Places.{spanOf}
+use Rattle.rules.specs.Grid.{cellAt, numberOf, onGrid}
 use Rattle.rules.specs.Fit.{placeChecks}
 use Rattle.rules.specs.Floats.{zero64, plus, times, over, floatOf, isFinite, allAre}
 use Rattle.rules.specs.declared.World.{World}
@@ -32,7 +34,7 @@ abbrev pub boxHas : ℕ → ℕ → ℕ → ℕ → ℕ → Bool
 boxHas rows cols r c i = leb 2 (r + i / 3) && ltb (r + i / 3 - 2) rows && leb 2 (c + i % 3) && ltb (c + i % 3 - 2) cols
 
 abbrev pub boxCell : ℕ → ℕ → ℕ → ℕ → ℕ
-boxCell cols r c i = (r + i / 3 - 2) * cols + (c + i % 3 - 2)
+boxCell cols r c i = numberOf cols (cellAt (r + i / 3 - 2) (c + i % 3 - 2))
 
 unfoldable pub boxCells : ℕ → ℕ → ℕ → ℕ → List ℕ
 boxCells rows cols r c = those 9 (boxHas rows cols r c) (boxCell cols r c)
@@ -51,7 +53,7 @@ scored rows cols falls term scores =
     (λ k. pick (falls (k / cols) (k % cols)) (meanOf term (boxCells rows cols (k / cols) (k % cols))) (getD scores k nan))
 
 abbrev pub inSpan : Span → ℕ → Bool
-inSpan s x = leb (s .0) x && ltb x (s .1)
+inSpan s x = between (s .0) (s .1) x
 
 -- after a lay: targets from span start+1 to the span's end (radius 2, end clipped to the board), and the cell one further down
 -- and right of each; the target and its neighbours are that cell's box. A write off the board is dropped: no cell is past it
@@ -77,34 +79,33 @@ liftScores rows cols counts tiles rowSpan colSpan scores =
 abbrev pub fractionChecks : List ℕ → ℕ → ℕ → ℕ → Cell → Checks
 fractionChecks counts rows cols tiles k =
     SHAPE unless boardSides rows cols
-    or LENGTH unless hasLength counts (rows * cols)
-    or LENGTH unless tileNumber tiles
-    or CELL unless noneAbove counts tiles
-    or PLACE unless ltb (k .0) rows && ltb (k .1) cols
-    or accepted
+    then LENGTH unless hasLength counts (rows * cols)
+    then LENGTH unless tileNumber tiles
+    then CELL unless noneAbove counts tiles
+    then PLACE unless onGrid rows cols k
 
 unfoldable pub fractionAt : List ℕ → ℕ → ℕ → ℕ → Cell → FractionAnswer
 fractionAt counts rows cols tiles k =
-    fractionAnswer (refusal (fractionChecks counts rows cols tiles k)) (fraction counts tiles (k .0 * cols + k .1))
+    fractionAnswer (refusal (fractionChecks counts rows cols tiles k)) (fraction counts tiles (numberOf cols k))
 
-abbrev pub scoreChecks : List Float → List ℕ → ℕ → ℕ → ℕ → Checks → Checks
-scoreChecks scores counts rows cols tiles more =
+abbrev pub scoreChecks : List Float → List ℕ → ℕ → ℕ → ℕ → Checks
+scoreChecks scores counts rows cols tiles =
     LENGTH unless hasLength scores (rows * cols)
-    or LENGTH unless hasLength counts (rows * cols)
-    or LENGTH unless tileNumber tiles
-    or CELL unless noneAbove counts tiles
-    or NUMBER unless allAre isFinite scores
-    or more
+    then LENGTH unless hasLength counts (rows * cols)
+    then LENGTH unless tileNumber tiles
+    then CELL unless noneAbove counts tiles
+    then NUMBER unless allAre isFinite scores
 
 abbrev pub layScoreChecks : List Float → List ℕ → ℕ → ℕ → ℕ → World → Offset → Checks
 layScoreChecks scores counts rows cols tiles w o =
     SHAPE unless boardSides rows cols
-    or scoreChecks scores counts rows cols tiles (placeChecks rows cols w o accepted)
+    then scoreChecks scores counts rows cols tiles
+    then placeChecks rows cols w o
 
 -- Span ends at most the board's side
 abbrev pub liftScoreChecks : List Float → List ℕ → ℕ → ℕ → ℕ → Span → Span → Checks
 liftScoreChecks scores counts rows cols tiles rowSpan colSpan =
     SHAPE unless boardSides rows cols
-    or SHAPE unless leb (rowSpan .1) rows
-    or SHAPE unless leb (colSpan .1) cols
-    or scoreChecks scores counts rows cols tiles accepted
+    then SHAPE unless leb (rowSpan .1) rows
+    then SHAPE unless leb (colSpan .1) cols
+    then scoreChecks scores counts rows cols tiles

@@ -6,7 +6,7 @@ use lib.Dec.{ltb, eqb}
 use lib.ListN.{length, replicate}
 use Rattle.base.specs.Counting.{pick}
 use Rattle.base.specs.Tables.{those}
-use Rattle.base.specs.Refusal.{Checks, accepted, _unless_or_, refusal}
+use Rattle.base.specs.Refusal.{Checks, _unless_, _then_, refusal}
 use Rattle.rules.specs.Bounds.{maxColours, COUNT, CELL}
 use Rattle.rules.specs.Tests.{colourCount}
 use Rattle.rules.specs.Answers.{setAnswer, verdictAnswer, numberAnswer}
@@ -40,20 +40,18 @@ marksWithin s = ltb (s .bits) (2 ^ (s .size))
 abbrev pub setChecks : TileBitset → Checks
 setChecks s =
     COUNT unless colourCount (s .size)
-    or CELL unless marksWithin s
-    or accepted
+    then CELL unless marksWithin s
 
 -- two sets: COUNT for either size and for two that differ, then CELL for either
 abbrev pub setsChecks : TileBitset → TileBitset → Checks
 setsChecks s u =
     COUNT unless colourCount (s .size)
-    or COUNT unless eqb (s .size) (u .size)
-    or CELL unless marksWithin s
-    or CELL unless marksWithin u
-    or accepted
+    then COUNT unless eqb (s .size) (u .size)
+    then CELL unless marksWithin s
+    then CELL unless marksWithin u
 
 abbrev pub newSetChecks : ℕ → Checks
-newSetChecks n = COUNT unless colourCount n or accepted
+newSetChecks n = COUNT unless colourCount n
 
 unfoldable pub emptySet : ℕ → SetAnswer
 emptySet n = setAnswer (refusal (newSetChecks n)) (setOf n (λ t. false))

@@ -1,22 +1,23 @@
 -- Document 01, "Tiles". A tile is nine numbers, row by row; a tile list is one list, nine numbers a tile.
 use Prim.Native.Nat.{ℕ, zero, suc, _+_, _-_, _*_, _/_, _%_}
-use mathlib.Core.Bool.{Bool, _&&_}
+use mathlib.Core.Bool.{Bool}
 use mathlib.Core.List.{List, [], _++_}
 use lib.Dec.{leb, ltb, eqb}
 use lib.ListN.{length, getD, take, drop}
 use Rattle.base.specs.Counting.{pick, every, some}
 use Rattle.base.specs.Tables.{tab}
-use Rattle.base.specs.Refusal.{Checks, accepted, _unless_or_, refusal, unlessRefused}
+use Rattle.base.specs.Refusal.{Checks, _unless_, _then_, refusal, unlessRefused}
 use Rattle.rules.specs.Bounds.{tileCells, SHAPE, LENGTH, COUNT, CELL, ROOM}
 use Rattle.rules.specs.Tests.{sampleSides, hasLength, wholeTiles, tilesIn, colourCount, noneAbove}
 use Rattle.rules.specs.Answers.{tileAnswer, setAnswer}
+use Rattle.rules.specs.Grid.{cellAt, numberOf, onGrid}
 use Rattle.rules.specs.Sets.{setOf}
 use Rattle.rules.specs.declared.TileNumber.{TileNumber}
 use Rattle.rules.specs.declared.SetAnswer.{SetAnswer}
 
 -- Cells past the sample are 0
 unfoldable pub sampleCell : List ℕ → ℕ → ℕ → ℕ → ℕ → ℕ
-sampleCell sample rows cols r c = pick (ltb r rows && ltb c cols) (getD sample (r * cols + c) 0) 0
+sampleCell sample rows cols r c = pick (onGrid rows cols (cellAt r c)) (getD sample (numberOf cols (cellAt r c)) 0) 0
 
 -- Windows start at rows 0 to max(0, rows-3), columns likewise: so many start along a side
 abbrev pub startsAlong : ℕ → ℕ
@@ -89,21 +90,20 @@ storeWith tiles store =
     let first : List ℕ = take (tilesIn store * tileCells) tiles in
     first ++ drop (length first) store
 
-abbrev pub sampleChecks : List ℕ → ℕ → ℕ → ℕ → Checks → Checks
-sampleChecks sample rows cols count more =
+abbrev pub sampleChecks : List ℕ → ℕ → ℕ → ℕ → Checks
+sampleChecks sample rows cols count =
     SHAPE unless sampleSides rows cols
-    or LENGTH unless hasLength sample (rows * cols)
-    or COUNT unless colourCount count
-    or CELL unless noneAbove sample count
-    or more
+    then LENGTH unless hasLength sample (rows * cols)
+    then COUNT unless colourCount count
+    then CELL unless noneAbove sample count
 
 -- ROOM: the distinct tiles are more than the store's length divided by 9
 abbrev pub roomCheck : List ℕ → List ℕ → Checks
-roomCheck tiles store = ROOM unless leb (tilesIn tiles) (tilesIn store) or accepted
+roomCheck tiles store = ROOM unless leb (tilesIn tiles) (tilesIn store)
 
 abbrev pub extractionChecks : List ℕ → ℕ → ℕ → ℕ → Bool → Bool → List ℕ → Checks
 extractionChecks sample rows cols count rotations reflections store =
-    sampleChecks sample rows cols count (roomCheck (extracted sample rows cols rotations reflections) store)
+    sampleChecks sample rows cols count then roomCheck (extracted sample rows cols rotations reflections) store
 
 unfoldable pub extraction : List ℕ → ℕ → ℕ → ℕ → Bool → Bool → List ℕ → TileNumber
 extraction sample rows cols count rotations reflections store =
@@ -114,15 +114,14 @@ extraction sample rows cols count rotations reflections store =
 -- a refusal before ROOM touches nothing; ROOM leaves the first tiles, as many as fit whole
 unfoldable pub storeAfter : List ℕ → ℕ → ℕ → ℕ → Bool → Bool → List ℕ → List ℕ
 storeAfter sample rows cols count rotations reflections store =
-    unlessRefused (refusal (sampleChecks sample rows cols count accepted))
+    unlessRefused (refusal (sampleChecks sample rows cols count))
     (storeWith (extracted sample rows cols rotations reflections) store)
     store
 
 abbrev pub membershipChecks : List ℕ → ℕ → Checks
 membershipChecks tile count =
     COUNT unless colourCount count
-    or CELL unless noneAbove tile count
-    or accepted
+    then CELL unless noneAbove tile count
 
 -- Membership is the set of a tile's colours, 0 left out
 unfoldable pub membership : List ℕ → ℕ → SetAnswer
@@ -132,4 +131,4 @@ membership tile count =
 
 -- how many tiles a list has
 unfoldable pub tilesCounted : List ℕ → TileNumber
-tilesCounted tiles = tileAnswer (refusal (LENGTH unless wholeTiles tiles or accepted)) (tilesIn tiles)
+tilesCounted tiles = tileAnswer (refusal (LENGTH unless wholeTiles tiles)) (tilesIn tiles)

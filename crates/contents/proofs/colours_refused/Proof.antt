@@ -1,6 +1,6 @@
 -- `contents::colours_refused` meets its contract: each exit answers the first check that fails. Assumes nothing.
 use Rattle.base.proofs.Bools.{passes}
-use Rattle.base.proofs.Chain.{refuse, pass, no-check}
+use Rattle.base.proofs.Chain.{chain}
 use borrow.Author.Needs.{needs}
 use Rattle.contents.proofs.colours_refused.Statement.{statement}
 use Rattle.contents.proofs.colours_refused.Tie as tie
@@ -9,35 +9,22 @@ colour-count-requires : tie.Need-colour-count-requires
 colour-count-requires c κs = search needs
 
 returns : tie.Need-returns
-returns c = refuse _ _ (c .before .colour-count .ensures) (c .if1 .taken)
+returns c = search chain depth 20 fits 5000
 
 no-byte-above-requires : tie.Need-no-byte-above-requires
 no-byte-above-requires c κs = search needs
 
 returns-2 : tie.Need-returns-2
-returns-2 c =
-    pass _ _ _ (c .before .before .before .colour-count .ensures) (c .before .before .if1 .left)
-    (refuse _ _ (c .before .no-byte-above .ensures) (c .if2 .taken))
+returns-2 c = search chain depth 20 fits 5000
 
 pieces-stored-requires : tie.Need-pieces-stored-requires
 pieces-stored-requires c κs = passes _ (c .before .before .before .colour-count .ensures) (c .before .before .if1 .left)
 
 returns-3 : tie.Need-returns-3
-returns-3 c =
-    let e2 = c .before .before in
-    let e1 = e2 .before .before in
-    pass _ _ _ (e1 .before .colour-count .ensures) (e1 .if1 .left)
-    (pass _ _ _ (e2 .before .no-byte-above .ensures) (e2 .if2 .left)
-    (refuse _ _ (c .before .pieces-stored .ensures) (c .if3 .taken)))
+returns-3 c = search chain depth 20 fits 5000
 
 returns-4 : tie.Need-returns-4
-returns-4 c =
-    let e2 = c .before .before in
-    let e1 = e2 .before .before in
-    pass _ _ _ (e1 .before .colour-count .ensures) (e1 .if1 .left)
-    (pass _ _ _ (e2 .before .no-byte-above .ensures) (e2 .if2 .left)
-    (pass _ _ _ (c .before .pieces-stored .ensures) (c .if3 .left)
-    no-check))
+returns-4 c = search chain depth 20 fits 5000
 
 pub colours-refused-spec : {M : Type 1} → statement M
 colours-refused-spec =

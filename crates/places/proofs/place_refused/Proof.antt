@@ -1,8 +1,7 @@
 -- `places::place_refused` meets its contract: each exit answers the first check that fails.
 -- Assumes nothing.
 use borrow.Author.Needs.{needs}
-use Rattle.rules.specs.Bounds.{PLACE}
-use Rattle.base.proofs.Chain.{refuse, pass, no-check}
+use Rattle.base.proofs.Chain.{chain}
 use Rattle.places.proofs.place_refused.Statement.{statement}
 use Rattle.places.proofs.place_refused.Tie as tie
 
@@ -10,32 +9,22 @@ on-wall-requires : tie.Need-on-wall-requires
 on-wall-requires c κs = search needs
 
 returns : tie.Need-returns
-returns c = refuse _ _ (c .before .on-wall .ensures) (c .if1 .taken)
+returns c = search chain depth 20 fits 5000
 
 offset-fits-requires : tie.Need-offset-fits-requires
 offset-fits-requires c κs = search needs
 
 returns-2 : tie.Need-returns-2
-returns-2 c =
-    let d = c .before .before in
-    pass PLACE _ _ (d .before .on-wall .ensures) (d .if1 .left) (refuse _ _ (c .before .offset-fits .ensures) (c .if2 .taken))
+returns-2 c = search chain depth 20 fits 5000
 
 on-board-requires : tie.Need-on-board-requires
 on-board-requires c κs = search needs
 
 returns-3 : tie.Need-returns-3
-returns-3 c =
-    let e = c .before .before in
-    let d = e .before .before in
-    pass PLACE _ _ (d .before .on-wall .ensures) (d .if1 .left)
-    (pass PLACE _ _ (e .before .offset-fits .ensures) (e .if2 .left) (refuse _ _ (c .before .on-board .ensures) (c .if3 .taken)))
+returns-3 c = search chain depth 20 fits 5000
 
 returns-4 : tie.Need-returns-4
-returns-4 c =
-    let e = c .before .before in
-    let d = e .before .before in
-    pass PLACE _ _ (d .before .on-wall .ensures) (d .if1 .left)
-    (pass PLACE _ _ (e .before .offset-fits .ensures) (e .if2 .left) (pass PLACE _ _ (c .before .on-board .ensures) (c .if3 .left) no-check))
+returns-4 c = search chain depth 20 fits 5000
 
 pub place-refused-spec : {M : Type 1} → statement M
 place-refused-spec =

@@ -1,0 +1,112 @@
+-- The promises of the calls that write lent memory, one verb a call: its checks, its answer, and what it leaves. `before` and `after` are
+-- what a lent plane holds when the call begins and when it ends.
+use Prim.Native.Nat.{ℕ, _*_}
+use mathlib.Core.Bool.{Bool}
+use mathlib.Core.List.{List}
+use lib.Ieee.{Float, nan}
+use denote.Ref.{RefT}
+use denote.Triple.Both.{Both}
+use Rattle.base.specs.Refusal.{Checks, Gives, Does}
+use Rattle.rules.specs.Answers.{writtenAnswer}
+use Rattle.rules.specs.Floats.{one64}
+use Rattle.rules.specs.Grid.{Kind, flat, numberOf}
+use Rattle.rules.specs.Places.{cellOf, copied, copyChecks, floatCopyChecks}
+use Rattle.rules.specs.Tiles.{extraction, storeAfter}
+use Rattle.rules.specs.Scores.{layScores, liftScores, layScoreChecks, liftScoreChecks}
+use Rattle.rules.specs.Probabilities.{Block, probabilitiesAt, normalised, normaliseChecks, multiplied, divided, influenceChecks}
+use Rattle.rules.specs.Board.{Panel, Board, laying, afterLay, lifting, afterLift, freshBoard, freshChecks, raised, lowered, weightChecks, recounted, recountChecks}
+use Rattle.rules.specs.declared.World.{World}
+use Rattle.rules.specs.declared.Offset.{Offset}
+use Rattle.rules.specs.declared.Span.{Span}
+use Rattle.rules.specs.declared.Pads.{Pads}
+use Rattle.rules.specs.declared.Written.{Written}
+use Rattle.rules.specs.declared.TileNumber.{TileNumber}
+use Rattle.rules.specs.declared.LayAnswer.{LayAnswer}
+use Rattle.rules.specs.declared.LiftAnswer.{LiftAnswer}
+
+-- ---- lent memory
+
+abbrev pub Lent : Type 0 → Type 0
+Lent A = Both (RefT A) (RefT A)
+
+abbrev pub before : {A : Type 0} → Lent A → A
+before plane = plane .entry .now
+
+abbrev pub after : {A : Type 0} → Lent A → A
+after plane = plane .exit .now
+
+abbrev pub board : List ℕ → List ℕ → List ℕ → Board
+board pieces weights counts = record { pieces = pieces; weights = weights; counts = counts }
+
+-- the three planes of a board
+abbrev pub boardBefore : Lent (List ℕ) → Lent (List ℕ) → Lent (List ℕ) → Board
+boardBefore pieces weights counts = board (before pieces) (before weights) (before counts)
+
+abbrev pub boardAfter : Lent (List ℕ) → Lent (List ℕ) → Lent (List ℕ) → Board
+boardAfter pieces weights counts = board (after pieces) (after weights) (after counts)
+
+-- the panel of a call, whose grid is flat
+abbrev pub panel : ℕ → ℕ → List ℕ → Offset → Panel
+panel rows cols tiles offset = record { kind = flat; rows = rows; cols = cols; tiles = tiles; offset = offset }
+
+-- ---- calls that answer `Done` or a refusal
+
+abbrev pub Writes : {B : Type 0} → Checks → B → B → Written → B → Type 0
+Writes checks new old = Does checks writtenAnswer new old
+
+-- fresh
+abbrev pub Freshens : ℕ → ℕ → ℕ → Board → Written → Board → Type 0
+Freshens rows cols tiles old = Writes (freshChecks rows cols tiles old) (freshBoard (rows * cols) tiles) old
+
+-- the weights round a place, up and down
+abbrev pub Raises : Kind → ℕ → ℕ → World → Offset → List ℕ → Written → List ℕ → Type 0
+Raises kind rows cols w o old = Writes (weightChecks old rows cols w o) (raised (kind rows cols) (numberOf cols (cellOf w o)) old) old
+
+abbrev pub Lowers : Kind → ℕ → ℕ → World → Offset → List ℕ → Written → List ℕ → Type 0
+Lowers kind rows cols w o old = Writes (weightChecks old rows cols w o) (lowered (kind rows cols) (numberOf cols (cellOf w o)) old) old
+
+-- the counts round a place
+abbrev pub Recounts : Panel → ℕ → World → List ℕ → List ℕ → Written → List ℕ → Type 0
+Recounts j count w pieces old =
+    Writes (recountChecks old pieces (j .rows) (j .cols) (j .tiles) count w (j .offset))
+    (recounted (j .kind (j .rows) (j .cols)) (j .tiles) pieces (numberOf (j .cols) (cellOf w (j .offset))) old)
+    old
+
+-- the copies of a plane into a larger one: both fill new cells with 1
+abbrev pub CopiesWords : ℕ → ℕ → Pads → List ℕ → List ℕ → Written → List ℕ → Type 0
+CopiesWords rows cols p plane old = Writes (copyChecks plane rows cols p old) (copied 0 1 plane rows cols p) old
+
+abbrev pub CopiesFloats : ℕ → ℕ → Pads → List Float → List Float → Written → List Float → Type 0
+CopiesFloats rows cols p plane old = Writes (floatCopyChecks plane rows cols p old) (copied nan one64 plane rows cols p) old
+
+-- the two scores
+abbrev pub ScoresLay : ℕ → ℕ → List ℕ → ℕ → World → Offset → List Float → Written → List Float → Type 0
+ScoresLay rows cols counts tiles w o old = Writes (layScoreChecks old counts rows cols tiles w o) (layScores rows cols counts tiles w o old) old
+
+abbrev pub ScoresLift : ℕ → ℕ → List ℕ → ℕ → Span → Span → List Float → Written → List Float → Type 0
+ScoresLift rows cols counts tiles rowSpan colSpan old =
+    Writes (liftScoreChecks old counts rows cols tiles rowSpan colSpan) (liftScores rows cols counts tiles rowSpan colSpan old) old
+
+-- normalised probabilities, the product step and its reverse
+abbrev pub Normalises : List Float → ℕ → ℕ → ℕ → World → Offset → List Float → Written → List Float → Type 0
+Normalises plane rows cols count w o old =
+    Writes (normaliseChecks plane rows cols count w o old) (normalised (probabilitiesAt plane rows cols count w o)) old
+
+abbrev pub Multiplies : ℕ → ℕ → ℕ → Block → World → Offset → ℕ → List Float → Written → List Float → Type 0
+Multiplies rows cols count b w o k old = Writes (influenceChecks old rows cols count b w o k) (multiplied rows cols b w o k old) old
+
+abbrev pub Divides : ℕ → ℕ → ℕ → Block → World → Offset → ℕ → List Float → Written → List Float → Type 0
+Divides rows cols count b w o k old = Writes (influenceChecks old rows cols count b w o k) (divided rows cols b w o k old) old
+
+-- ---- calls with answers of their own
+
+-- the tiles of a sample into a store: ROOM leaves the first, as many as fit whole
+abbrev pub Extracts : List ℕ → ℕ → ℕ → ℕ → Bool → Bool → List ℕ → TileNumber → List ℕ → Type 0
+Extracts sample rows cols count rotations reflections old =
+    Gives (extraction sample rows cols count rotations reflections old) (storeAfter sample rows cols count rotations reflections old)
+
+abbrev pub Lays : Panel → ℕ → World → ℕ → Board → LayAnswer → Board → Type 0
+Lays j count w colour old = Gives (laying j count old w colour) (afterLay j count old w colour)
+
+abbrev pub Lifts : Panel → ℕ → World → Board → LiftAnswer → Board → Type 0
+Lifts j count w old = Gives (lifting j count old w) (afterLift j count old w)
