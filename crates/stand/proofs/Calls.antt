@@ -14,44 +14,21 @@ use lib.Seq.{getD-set-same, getD-set-other}
 use borrow.Author.Tests.{leb-true, le-leb, eq-eqb, eqb-true, eqb-false, not-true, le-ltb}
 use Rattle.base.specs.Counting.{within}
 use Rattle.base.specs.Tables.{tab}
-use Rattle.base.specs.Refusal.{Checks, accepted, _unless_or_, refusal, unlessRefused}
+use Rattle.base.specs.Refusal.{Checks, _unless_, _then_, refusal, unlessRefused}
 use Rattle.base.proofs.Bools.{never, by-test}
 use Rattle.base.proofs.Counted.{every-is, every-at}
 use Rattle.base.proofs.Tabled.{length-tab, getD-tab}
-use Rattle.base.proofs.Chain.{numbered, passed}
+use Rattle.base.proofs.Chain.{numbered, Passes, all-pass, none-fails}
 use Rattle.base.proofs.Numbers.{mul-le, within-low, within-high, within-is}
 use Rattle.rules.specs.Bounds.{maxColours, bare, maxBoardSide, maxWeight, TYPE, TAKEN, BARE}
 use Rattle.rules.specs.Tests.{boardSides, hasLength, wholeTiles, tilesIn, colourCount, noneAbove, entryUpTo, piecesStored, pieceStored, offsetFits}
-use Rattle.rules.specs.Grid.{flat, laidOn}
+use Rattle.rules.specs.Grid.{laidOn}
 use Rattle.rules.specs.Fit.{placeChecks}
-use Rattle.rules.specs.Board.{Board, weightsOf, countsOf, boardOf, laid, boardChecks, afterLay, afterLift}
+use Rattle.rules.specs.Board.{Panel, shapeOf, cellIn, Board, weightsOf, countsOf, boardOf, laid, boardChecks, afterLay, afterLift}
 use Rattle.rules.specs.declared.World.{World}
-use Rattle.stand.specs.Runs.{Panel, shapeOn, cellAt, Call, lay, lift, placeOf, countOf, jobOf, refusalOf, step, says}
+use Rattle.stand.specs.Runs.{Call, lay, lift, placeOf, countOf, refusalOf, step, says}
 use Rattle.stand.proofs.Shared.{Sound, laid-is, lifted-is, bare-off, weight-low, count-low}
-use Rattle.stand.proofs.Flat.{flat-sound}
 use Rattle.stand.proofs.Walls.{On, cell-in, Sides, sides-in}
-
--- ---- a chain of checks accepts exactly where each test passes
-
-abbrev pub Passes : Checks → Type 0
-Passes accepted = Unit {0}
-Passes (n unless b or cs) = (b ≡ true) × Passes cs
-
-pub all-pass : (cs : Checks) → numbered cs ≡ true → refusal cs ≡ 0 → Passes cs
-unfolding numbered
-all-pass accepted p e = tt
-all-pass (zero unless b or cs) p e = never false p refl
-all-pass (suc n unless b or cs) p e = let h = passed n b cs e in (h .0, all-pass cs p (h .1))
-
--- one test passes, and the rest
-infixr 3 _also_
-abbrev pub _also_ : {A B : Type 0} → A → B → A × B
-_also_ a b = (a, b)
-
-pub none-fails : (cs : Checks) → Passes cs → refusal cs ≡ 0
-unfolding refusal
-none-fails accepted h = refl
-none-fails (n unless b or cs) h = rw (h .0) (none-fails cs (h .1))
 
 -- ---- when a call is accepted
 
@@ -68,12 +45,12 @@ pub record Named (j : Panel) (count : ℕ) : Type 0 where
 
 -- what a call asks of its cell, which stores x: a colour of the count on a bare cell, or a piece to lift
 abbrev pub ownChecks : ℕ → Call → Checks
-ownChecks x (lay count w colour) = TYPE unless within 1 count colour or TAKEN unless not (ltb 1 x) or accepted
-ownChecks x (lift count w) = BARE unless ltb 1 x or accepted
+ownChecks x (lay count w colour) = TYPE unless within 1 count colour then TAKEN unless not (ltb 1 x)
+ownChecks x (lift count w) = BARE unless ltb 1 x
 
 -- the cell of a call
 abbrev pub cellBy : Panel → Call → ℕ
-cellBy j c = cellAt j (placeOf c)
+cellBy j c = cellIn j (placeOf c)
 
 pub record Taken (j : Panel) (p : List ℕ) (c : Call) : Type 0 where
   pub panel : InBounds j
@@ -85,10 +62,11 @@ pub record Taken (j : Panel) (p : List ℕ) (c : Call) : Type 0 where
 -- the checks of a call, one after the other
 abbrev checksOf : Panel → Board → Call → Checks
 checksOf j b c =
-    boardChecks (jobOf j (countOf c)) b (placeChecks (j .rows) (j .cols) (placeOf c) (j .offset) (ownChecks (getD (b .pieces) (cellBy j c) 0) c))
+    boardChecks j (countOf c) b
+    then placeChecks (j .rows) (j .cols) (placeOf c) (j .offset)
+    then ownChecks (getD (b .pieces) (cellBy j c) 0) c
 
 as-checks : (j : Panel) (b : Board) (c : Call) → (refusalOf j b c ≡ refusal (checksOf j b c)) × (numbered (checksOf j b c) ≡ true)
-unfolding numbered
 as-checks j b (lay count w colour) = (refl, refl)
 as-checks j b (lift count w) = (refl, refl)
 
@@ -109,34 +87,26 @@ unfolding noneAbove
 low-plane plane most h = every-is (entryUpTo plane most) (length plane) (λ k k<. le-leb (getD plane k 0) most (h k))
 
 -- at most 64 times 64 cells, each of which adds at most 3 to a weight
-light : {rows cols w : ℕ} → Sides rows cols → w ≤ 1 + rows * cols * 3 → w ≤ maxWeight
-light {rows} {cols} sides h =
+few-pieces : {rows cols n w : ℕ} → Sides rows cols → n ≡ rows * cols → w ≤ 1 + n * 3 → w ≤ maxWeight
+few-pieces {rows} {cols} sides e h =
     let few : rows * cols ≤ maxBoardSide * maxBoardSide = mul-le (sides .rows-low) (sides .cols-low) in
     omega arith
 
 module _ (j : Panel) where
   abbrev pub ofPieces : List ℕ → Board
-  ofPieces p = boardOf (shapeOn j) (j .tiles) p
+  ofPieces p = boardOf (shapeOf j) (j .tiles) p
 
   pub taken : (p : List ℕ) (c : Call) → Good j p → Taken j p c → refusalOf j (ofPieces p) c ≡ 0
-  unfolding boardOf weightsOf countsOf hasLength flat
+  unfolding boardOf weightsOf countsOf hasLength
   taken p c good t =
-      as-checks j (ofPieces p) c .0
-      ∙ none-fails (checksOf j (ofPieces p) c)
-      (t .panel .sides
-      also eq-eqb _ _ (good .long)
-      also eq-eqb _ _ (length-tab (j .rows * j .cols) _)
-      also eq-eqb _ _ (length-tab (j .rows * j .cols) _)
-      also t .panel .whole
-      also t .named .within
-      also t .named .cells
-      also t .stored
-      also low-plane _ maxWeight (λ k. light (sides-in (j .rows) (j .cols) (t .panel .sides)) (weight-low (shapeOn j) p k))
-      also low-plane _ (tilesIn (j .tiles)) (count-low (shapeOn j) (j .tiles) p)
-      also t .on .wall
-      also t .panel .offset
-      also t .on .board
-      also t .own)
+      let long : eqb (length p) (j .rows * j .cols) ≡ true = eq-eqb _ _ (good .long) in
+      let weighed : eqb (length (weightsOf (shapeOf j) p)) (j .rows * j .cols) ≡ true = eq-eqb _ _ (length-tab (length p) _ ∙ good .long) in
+      let counted : eqb (length (countsOf (shapeOf j) (j .tiles) p)) (j .rows * j .cols) ≡ true = eq-eqb _ _ (length-tab (length p) _ ∙ good .long) in
+      let light : noneAbove (weightsOf (shapeOf j) p) maxWeight ≡ true =
+      low-plane _ maxWeight (λ k. few-pieces (sides-in (j .rows) (j .cols) (t .panel .sides)) (good .long) (weight-low (shapeOf j) p k)) in
+      let few : noneAbove (countsOf (shapeOf j) (j .tiles) p) (tilesIn (j .tiles)) ≡ true = low-plane _ (tilesIn (j .tiles)) (count-low (shapeOf j) (j .tiles) p) in
+      let y : Passes (checksOf j (ofPieces p) c) = search in
+      as-checks j (ofPieces p) c .0 ∙ none-fails _ y
 
   -- what a call finds on its cell, and that it names the colours of all, is what it asks of the pieces
   pub other : (q r : List ℕ) (c : Call) → piecesStored r (countOf c) ≡ true → getD r (cellBy j c) 0 ≡ getD q (cellBy j c) 0 → Taken j q c → Taken j r c
@@ -173,26 +143,25 @@ module _ (j : Panel) where
   abbrev pub moved : List ℕ → Call → List ℕ
   moved p c = unlessRefused (refusalOf j (ofPieces j p) c) (says j p c) p
 
-  sound : Sound (shapeOn j)
-  sound = flat-sound (j .rows) (j .cols)
+  cell-of-pieces : (p : List ℕ) {w : World} → Good j p → On j w → cellIn j w < length p
+  cell-of-pieces p good on = omega (arith, good .long, cell-in j on)
 
   -- the rule of lay on a board that is what its pieces say
-  pub laid-of : (p : List ℕ) (count : ℕ) (w : World) (colour : ℕ) → Good j p → Taken j p (lay count w colour)
-      → laid (shapeOn j) (j .tiles) (ofPieces j p) (cellAt j w) colour ≡ ofPieces j (says j p (lay count w colour))
-  unfolding flat
-  laid-of p count w colour good t =
-      laid-is (shapeOn j) sound (j .tiles) p (cellAt j w) colour (good .long) (cell-in j (t .on)) (not-true _ (t .own .1 .0)) (within-low 1 count colour (t .own .0))
+  pub laid-of : Sound (shapeOf j) → (p : List ℕ) (count : ℕ) (w : World) (colour : ℕ) → Good j p → Taken j p (lay count w colour)
+      → laid (shapeOf j) (j .tiles) (ofPieces j p) (cellIn j w) colour ≡ ofPieces j (says j p (lay count w colour))
+  laid-of sound p count w colour good t =
+      laid-is (shapeOf j) sound (j .tiles) p (cellIn j w) colour (cell-of-pieces p good (t .on)) (not-true _ (t .own .1)) (within-low 1 count colour (t .own .0))
 
-  pub step-is : (p : List ℕ) (c : Call) → Good j p → step j (ofPieces j p) c ≡ ofPieces j (moved p c)
-  unfolding afterLay afterLift boardOf flat
-  step-is p (lay count w colour) good =
+  pub step-is : Sound (shapeOf j) → (p : List ℕ) (c : Call) → Good j p → step j (ofPieces j p) c ≡ ofPieces j (moved p c)
+  unfolding afterLay afterLift boardOf
+  step-is sound p (lay count w colour) good =
       through (refusalOf j (ofPieces j p) (lay count w colour)) (ofPieces j) _ _ p
-      (λ e. laid-of p count w colour good (accepts j (ofPieces j p) (lay count w colour) e))
-  step-is p (lift count w) good =
+      (λ e. laid-of sound p count w colour good (accepts j (ofPieces j p) (lay count w colour) e))
+  step-is sound p (lift count w) good =
       through (refusalOf j (ofPieces j p) (lift count w)) (ofPieces j) _ _ p
       (λ e.
       let t = accepts j (ofPieces j p) (lift count w) e in
-      lifted-is (shapeOn j) sound (j .tiles) p (cellAt j w) (good .long) (cell-in j (t .on)) (t .own .0))
+      lifted-is (shapeOf j) sound (j .tiles) p (cellIn j w) (cell-of-pieces p good (t .on)) (t .own))
 
   -- ---- what holds of the pieces from the fresh board on
 
@@ -200,12 +169,11 @@ module _ (j : Panel) where
   nothing = tab (j .rows * j .cols) (λ k. bare)
 
   pub fresh-good : Good j nothing
-  unfolding flat
   fresh-good =
       record {
         long = length-tab (j .rows * j .cols) (λ k. bare);
         coloured = λ k k<. rw (getD-tab (j .rows * j .cols) (λ i. bare) k 0 k<) (within-is 1 (maxColours + 1) 1 (omega arith) (omega arith));
-        backed = λ k e. never (laidOn nothing k) e (le-ltb 1 (getD nothing k 0) (bare-off (shapeOn j) k));
+        backed = λ k e. never (laidOn nothing k) e (le-ltb 1 (getD nothing k 0) (bare-off (j .rows * j .cols) k));
       }
 
   put-good : (p : List ℕ) (k v : ℕ) → Good j p → InBounds j × Named j maxColours → k < j .rows * j .cols → 1 ≤ v → v ≤ maxColours + 1
@@ -242,9 +210,9 @@ module _ (j : Panel) where
 
   pub says-good : (p : List ℕ) (c : Call) → Good j p → Taken j p c → Good j (says j p c)
   says-good p (lay count w colour) good t =
-      put-good p (cellAt j w) (colour + 1) good (t .panel, largest count (t .named)) (cell-in j (t .on)) (omega arith)
+      put-good p (cellIn j w) (colour + 1) good (t .panel, largest count (t .named)) (cell-in j (t .on)) (omega arith)
       (omega (arith, few count (t .named), within-high 1 count colour (t .own .0)))
-  says-good p (lift count w) good t = put-good p (cellAt j w) bare good (t .panel, largest count (t .named)) (cell-in j (t .on)) (omega arith) (omega arith)
+  says-good p (lift count w) good t = put-good p (cellIn j w) bare good (t .panel, largest count (t .named)) (cell-in j (t .on)) (omega arith) (omega arith)
 
   pub moved-good : (p : List ℕ) (c : Call) → Good j p → Good j (moved p c)
   unfolding boardOf
@@ -253,8 +221,8 @@ module _ (j : Panel) where
   -- a call leaves colours of the count that it names where it found such
   pub says-stored : (p : List ℕ) (c : Call) → Taken j p c → piecesStored (says j p c) (countOf c) ≡ true
   says-stored p (lay count w colour) t =
-      put-stored p count (cellAt j w) (colour + 1) (t .stored) (omega arith) (omega (arith, within-high 1 count colour (t .own .0)))
-  says-stored p (lift count w) t = put-stored p count (cellAt j w) bare (t .stored) (omega arith) (omega arith)
+      put-stored p count (cellIn j w) (colour + 1) (t .stored) (omega arith) (omega (arith, within-high 1 count colour (t .own .0)))
+  says-stored p (lift count w) t = put-stored p count (cellIn j w) bare (t .stored) (omega arith) (omega arith)
 
   pub moved-stored : (p : List ℕ) (c : Call) → piecesStored p (countOf c) ≡ true → piecesStored (moved p c) (countOf c) ≡ true
   unfolding boardOf

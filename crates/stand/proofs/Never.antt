@@ -23,10 +23,11 @@ use Rattle.base.proofs.Tabled.{fold-append}
 use Rattle.rules.specs.Bounds.{maxColours, bare}
 use Rattle.rules.specs.Tests.{piecesStored}
 use Rattle.rules.specs.Grid.{laidOn}
-use Rattle.rules.specs.Board.{Board, boardOf, afterLay, afterLift}
+use Rattle.rules.specs.Board.{Panel, shapeOf, cellIn, Board, boardOf, afterLay, afterLift}
 use Rattle.rules.specs.declared.World.{World}
 use Rattle.rules.specs.Places.{samePlace}
-use Rattle.stand.specs.Runs.{Panel, shapeOn, cellAt, fresh, Call, lay, lift, placeOf, countOf, jobOf, refusalOf, step, run, says, Naming, elsewhere}
+use Rattle.stand.specs.Runs.{fresh, Call, lay, lift, placeOf, countOf, refusalOf, step, run, says, Naming, elsewhere}
+use Rattle.stand.proofs.Shared.{Sound}
 use Rattle.stand.proofs.Walls.{On, cell-in, same-place, same-cell}
 use Rattle.stand.proofs.Calls.{InBounds, Named, cellBy, Taken, either, accepts, other, taken, Good, ofPieces, put-stored, moved, nothing, fresh-good, moved-good, moved-stored}
 use Rattle.stand.proofs.Stands.{movedBy, run-good, run-fresh, says-all}
@@ -52,7 +53,7 @@ module _ (j : Panel) where
 
   module _ (w : World) (count : ℕ) (panel : InBounds j) (named : Named j count) (on : On j w) where
     abbrev k : ℕ
-    k = cellAt j w
+    k = cellIn j w
 
     -- all pieces have colours of the count that the calls name
     abbrev Stored : List ℕ → Type 0
@@ -94,8 +95,8 @@ module _ (j : Panel) where
         bare-stored = put-stored q (countOf c) k bare here (omega arith) (omega arith)
 
         at : (c : Call) → cellBy j c ≢ k → says j (without q) c ≡ without (says j q c)
-        at (lay n v colour) ne = set-comm q k (cellAt j v) bare (colour + 1) (λ z. ne (sym z))
-        at (lift n v) ne = set-comm q k (cellAt j v) bare bare (λ z. ne (sym z))
+        at (lay n v colour) ne = set-comm q k (cellIn j v) bare (colour + 1) (λ z. ne (sym z))
+        at (lift n v) ne = set-comm q k (cellIn j v) bare bare (λ z. ne (sym z))
 
     -- the pieces keep colours of the count
     keeps : (q : List ℕ) (c : Call) → Stored q → countOf c ≡ count → Stored (moved j q c)
@@ -127,9 +128,10 @@ module _ (j : Panel) where
     last-lift : (q : List ℕ) → Good j q → Stored q → moved j q (lift count w) ≡ without q
     last-lift q good s =
         by-test (laidOn q k)
-        (λ laid. has-new _ (without q) q (taken j q (lift count w) good (record { panel = panel; named = named; stored = s; on = on; own = (laid, tt) })))
+        (λ laid. has-new _ (without q) q (taken j q (lift count w) good (record { panel = panel; named = named; stored = s; on = on; own = laid })))
         (λ off. either {new = without q} {old = q} (λ r. r ≡ without q) (refusalOf j (ofPieces j q) (lift count w)) (λ z. refl) (sym (bare-stays q k good (cell-in j on) off)))
 
+module _ (j : Panel) (sound : Sound (shapeOf j)) where
   -- "A piece is laid on the plan and later lifted": the plan is as if that piece had never lain there. `before` and `after` are any calls;
   -- those between that name the piece's own place (a second lay there, an earlier lift) go with it. While the piece stands the calls
   -- name the number of colours that it was laid with: one that names fewer may be refused for the piece's sake.
@@ -138,17 +140,17 @@ module _ (j : Panel) where
       → run j (fresh j) (before ++ lay count w colour ∷ between ++ lift count w ∷ after) ≡ run j (fresh j) (before ++ elsewhere w between ++ after)
   unfolding boardOf fold
   as-if-never before between after w count colour lays names =
-      run-fresh j (before ++ lay count w colour ∷ between ++ lift count w ∷ after)
+      run-fresh j sound (before ++ lay count w colour ∷ between ++ lift count w ∷ after)
       ∙ ap (ofPieces j)
       (fold-append (moved j) (nothing j) (before ++ lay count w colour ∷ between) (lift count w ∷ after)
       ∙ ap (λ (r : List ℕ). movedBy j r after)
       (ap (λ (r : List ℕ). moved j r (lift count w)) (fold-append (moved j) (nothing j) before (lay count w colour ∷ between))
-      ∙ last-lift w count (t .panel) (t .named) (t .on) (movedBy j q between) (run-good j q between good′) (keep-all w count (t .panel) (t .named) (t .on) q between kept names)
-      ∙ sym (beside w count (t .panel) (t .named) (t .on) q between good′ (subst (Good j) (sym back) good) kept names)
+      ∙ last-lift j w count (t .panel) (t .named) (t .on) (movedBy j q between) (run-good j q between good′) (keep-all j w count (t .panel) (t .named) (t .on) q between kept names)
+      ∙ sym (beside j w count (t .panel) (t .named) (t .on) q between good′ (subst (Good j) (sym back) good) kept names)
       ∙ ap (λ (r : List ℕ). movedBy j r (elsewhere w between)) back
       ∙ sym (fold-append (moved j) (nothing j) before (elsewhere w between)))
       ∙ sym (fold-append (moved j) (nothing j) (before ++ elsewhere w between) after))
-      ∙ sym (run-fresh j (before ++ elsewhere w between ++ after))
+      ∙ sym (run-fresh j sound (before ++ elsewhere w between ++ after))
     where
       p : List ℕ
       p = movedBy j (nothing j) before
@@ -157,7 +159,7 @@ module _ (j : Panel) where
       good = run-good j (nothing j) before (fresh-good j)
 
       lays′ : refusalOf j (ofPieces j p) (lay count w colour) ≡ 0
-      lays′ = ap (λ (b : Board). refusalOf j b (lay count w colour)) (sym (run-fresh j before)) ∙ lays
+      lays′ = ap (λ (b : Board). refusalOf j b (lay count w colour)) (sym (run-fresh j sound before)) ∙ lays
 
       t : Taken j p (lay count w colour)
       t = accepts j (ofPieces j p) (lay count w colour) lays′
@@ -172,23 +174,23 @@ module _ (j : Panel) where
       kept : piecesStored q count ≡ true
       kept = moved-stored j p (lay count w colour) (t .stored)
 
-      back : set q (cellAt j w) bare ≡ p
+      back : set q (cellIn j w) bare ≡ p
       back =
-          ap (λ (r : List ℕ). set r (cellAt j w) bare) (has-new _ (says j p (lay count w colour)) p lays′)
-          ∙ set-set p (cellAt j w) (colour + 1) bare
-          ∙ bare-stays p (cellAt j w) good (cell-in j (t .on)) (not-true _ (t .own .1 .0))
+          ap (λ (r : List ℕ). set r (cellIn j w) bare) (has-new _ (says j p (lay count w colour)) p lays′)
+          ∙ set-set p (cellIn j w) (colour + 1) bare
+          ∙ bare-stays j p (cellIn j w) good (cell-in j (t .on)) (not-true _ (t .own .1))
 
   -- a piece laid and lifted at once leaves the very board that was there
   pub lifted-at-once : (calls : List Call) (w : World) (count colour : ℕ) → refusalOf j (run j (fresh j) calls) (lay count w colour) ≡ 0
-      → afterLift (jobOf j count) (afterLay (jobOf j count) (run j (fresh j) calls) w colour) w ≡ run j (fresh j) calls
+      → afterLift j count (afterLay j count (run j (fresh j) calls) w colour) w ≡ run j (fresh j) calls
   unfolding run fold elsewhere
   lifted-at-once calls w count colour lays =
       sym
       (fold-append (step j) (fresh j) (calls ++ lay count w colour ∷ []) (lift count w ∷ [])
-      ∙ ap (λ (b : Board). afterLift (jobOf j count) b w) (fold-append (step j) (fresh j) calls (lay count w colour ∷ [])))
+      ∙ ap (λ (b : Board). afterLift j count b w) (fold-append (step j) (fresh j) calls (lay count w colour ∷ [])))
       ∙ as-if-never calls [] [] w count colour lays tt
       ∙ ap (run j (fresh j)) (append-nil (calls ++ []) ∙ append-nil calls)
 
   -- whatever was laid and lifted on the way, the board depends on the standing pieces alone
   pub same-pieces : (some others : List Call) → run j (fresh j) some .pieces ≡ run j (fresh j) others .pieces → run j (fresh j) some ≡ run j (fresh j) others
-  same-pieces some others e = says-all j some ∙ ap (boardOf (shapeOn j) (j .tiles)) e ∙ sym (says-all j others)
+  same-pieces some others e = says-all j sound some ∙ ap (boardOf (shapeOf j) (j .tiles)) e ∙ sym (says-all j sound others)

@@ -25,8 +25,9 @@ use Rattle.base.proofs.Swept.{swept, swept-none, swept-above, swept-turn, swept
 use Rattle.rules.specs.Bounds.{maxColours, bare}
 use Rattle.rules.specs.Tests.{colourCount, noneAbove, piecesStored, pieceStored}
 use Rattle.rules.specs.Grid.{laidOn, colourOn}
-use Rattle.rules.specs.Board.{Board}
-use Rattle.stand.specs.Runs.{Panel, cellAt, fresh, Call, lay, refusalOf, step, run, acceptedIn, says, Piece, wallOf, standing, Reordered, none, keep, swap, twice, laidAll, lays}
+use Rattle.rules.specs.Board.{Panel, shapeOf, cellIn, Board}
+use Rattle.stand.specs.Runs.{fresh, Call, lay, refusalOf, step, run, acceptedIn, says, Piece, wallOf, standing, Reordered, none, keep, swap, twice, laidAll, lays}
+use Rattle.stand.proofs.Shared.{Sound}
 use Rattle.stand.proofs.Walls.{cell-in, sides-in, wall-on, wall-cell}
 use Rattle.stand.proofs.Calls.{InBounds, Named, Taken, other, taken, Good, ofPieces, laid-of, step-is, nothing, fresh-good, says-good, says-stored}
 use Rattle.stand.proofs.Stands.{fresh-of, says-all, pieces-good}
@@ -36,7 +37,7 @@ module _ (j : Panel) (count : ℕ) where
   laying x = lay count (x .place) (x .colour)
 
   abbrev cell : Piece → ℕ
-  cell x = cellAt j (x .place)
+  cell x = cellIn j (x .place)
 
   -- each of these lays is taken, from the pieces q on, and they leave the pieces r
   abbrev Lays : List ℕ → List Piece → List ℕ → Type 0
@@ -68,7 +69,7 @@ module _ (j : Panel) (count : ℕ) where
       let here : getD (says j q (laying x)) (cell y) 0 ≡ x .colour + 1 =
       rw e (getD-set-same q (cell x) (x .colour + 1) 0 (omega (arith, good .long, cell-in j (tx .on)))) in
       let low : 1 ≤ x .colour = within-low 1 count (x .colour) (tx .own .0) in
-      never (ltb 1 (getD (says j q (laying x)) (cell y) 0)) (lt-ltb 1 (getD (says j q (laying x)) (cell y) 0) (omega arith)) (not-true _ (ty .own .1 .0))
+      never (ltb 1 (getD (says j q (laying x)) (cell y) 0)) (lt-ltb 1 (getD (says j q (laying x)) (cell y) 0) (omega arith)) (not-true _ (ty .own .1))
 
   reorder : (q : List ℕ) (ys xs : List Piece) (r : List ℕ) → Reordered ys xs → Good j q → Lays q xs r → Lays q ys r
   reorder q ys xs r none good l = l
@@ -120,7 +121,7 @@ module _ (j : Panel) (count : ℕ) where
           named = m .0;
           stored = s;
           on = wall-on j n (sides-in (j .rows) (j .cols) (panel .sides)) (panel .offset) n<;
-          own = (within-is 1 count (colourOn p n) (omega arith) (omega arith), (ap (λ (x : ℕ). not (ltb 1 x)) here, tt));
+          own = (within-is 1 count (colourOn p n) (omega arith) (omega arith), ap (λ (x : ℕ). not (ltb 1 x)) here);
         }
 
     row-by-row : (n : ℕ) → n ≤ j .rows * j .cols → Lays (nothing j) (those n (laidOn p) piece) (upTo n)
@@ -162,12 +163,12 @@ module _ (j : Panel) (count : ℕ) where
 
   -- ---- as a run
 
-  as-run : (q : List ℕ) (xs : List Piece) (r : List ℕ) → Good j q → Lays q xs r
+  as-run : Sound (shapeOf j) → (q : List ℕ) (xs : List Piece) (r : List ℕ) → Good j q → Lays q xs r
       → (acceptedIn j (ofPieces j q) (lays count xs) ≡ lays count xs) × (run j (ofPieces j q) (lays count xs) ≡ ofPieces j r)
   unfolding acceptedIn run fold lays
-  as-run q [] r good e = (refl, ap (ofPieces j) e)
-  as-run q (x ∷ xs) r good (t, l) =
-      let rest = as-run (says j q (laying x)) xs r (says-good j q (laying x) good t) l in (
+  as-run sound q [] r good e = (refl, ap (ofPieces j) e)
+  as-run sound q (x ∷ xs) r good (t, l) =
+      let rest = as-run sound (says j q (laying x)) xs r (says-good j q (laying x) good t) l in (
         has-new _ (laying x ∷ later) later yes
             ∙ ap (λ (cs : List Call). laying x ∷ cs) (ap (λ (b : Board). acceptedIn j b (lays count xs)) left ∙ rest .0),
         ap (λ (b : Board). run j b (lays count xs)) left ∙ rest .1,
@@ -180,39 +181,39 @@ module _ (j : Panel) (count : ℕ) where
       later = acceptedIn j (step j (ofPieces j q) (laying x)) (lays count xs)
 
       left : step j (ofPieces j q) (laying x) ≡ ofPieces j (says j q (laying x))
-      left = step-is j q (laying x) good ∙ ap (ofPieces j) (has-new _ (says j q (laying x)) q yes)
+      left = step-is j sound q (laying x) good ∙ ap (ofPieces j) (has-new _ (says j q (laying x)) q yes)
 
   -- ---- by the rule of lay alone
 
-  by-rule : (q : List ℕ) (xs : List Piece) (r : List ℕ) → Good j q → Lays q xs r → laidAll j (ofPieces j q) xs ≡ ofPieces j r
+  by-rule : Sound (shapeOf j) → (q : List ℕ) (xs : List Piece) (r : List ℕ) → Good j q → Lays q xs r → laidAll j (ofPieces j q) xs ≡ ofPieces j r
   unfolding laidAll fold
-  by-rule q [] r good e = ap (ofPieces j) e
-  by-rule q (x ∷ xs) r good (t, l) =
-      ap (λ (b : Board). laidAll j b xs) (laid-of j q count (x .place) (x .colour) good t)
-      ∙ by-rule (says j q (laying x)) xs r (says-good j q (laying x) good t) l
+  by-rule sound q [] r good e = ap (ofPieces j) e
+  by-rule sound q (x ∷ xs) r good (t, l) =
+      ap (λ (b : Board). laidAll j b xs) (laid-of j sound q count (x .place) (x .colour) good t)
+      ∙ by-rule sound (says j q (laying x)) xs r (says-good j q (laying x) good t) l
 
-module _ (j : Panel) (calls : List Call) (pieces : List Piece) (order : Reordered pieces (standing j (run j (fresh j) calls .pieces))) where
+module _ (j : Panel) (sound : Sound (shapeOf j)) (calls : List Call) (pieces : List Piece) (order : Reordered pieces (standing j (run j (fresh j) calls .pieces))) where
   abbrev p : List ℕ
   p = run j (fresh j) calls .pieces
 
   -- the pieces of the run, laid in this order
   laid-so : (count : ℕ) → ((k : ℕ) → laidOn p k ≡ true → Named j count × (piecesStored p count ≡ true)) → Lays j count (nothing j) pieces p
   laid-so count may =
-      reorder j count (nothing j) pieces (standing j p) p order (fresh-good j) (all-laid j count p (pieces-good j calls) may)
+      reorder j count (nothing j) pieces (standing j p) p order (fresh-good j) (all-laid j count p (pieces-good j sound calls) may)
 
   called : (count : ℕ) → ((k : ℕ) → laidOn p k ≡ true → Named j count × (piecesStored p count ≡ true))
       → (acceptedIn j (fresh j) (lays count pieces) ≡ lays count pieces) × (run j (fresh j) (lays count pieces) ≡ run j (fresh j) calls)
   called count may =
-      let done = as-run j count (nothing j) pieces p (fresh-good j) (laid-so count may) in (
-        ap (λ (b : Board). acceptedIn j b (lays count pieces)) (fresh-of j) ∙ done .0,
-        ap (λ (b : Board). run j b (lays count pieces)) (fresh-of j) ∙ done .1 ∙ sym (says-all j calls),
+      let done = as-run j count sound (nothing j) pieces p (fresh-good j) (laid-so count may) in (
+        ap (λ (b : Board). acceptedIn j b (lays count pieces)) (fresh-of j sound) ∙ done .0,
+        ap (λ (b : Board). run j b (lays count pieces)) (fresh-of j sound) ∙ done .1 ∙ sym (says-all j sound calls),
       )
 
   -- the largest number of colours may always be named
   largest-may : (k : ℕ) → laidOn p k ≡ true → Named j maxColours × (piecesStored p maxColours ≡ true)
   unfolding piecesStored
   largest-may k on =
-      let good : Good j p = pieces-good j calls in (
+      let good : Good j p = pieces-good j sound calls in (
         good .backed k on .1,
         every-is (pieceStored p maxColours) (length p) (λ i i<. good .coloured i (omega (arith, good .long))),
       )
@@ -220,9 +221,9 @@ module _ (j : Panel) (calls : List Call) (pieces : List Piece) (order : Reordere
   -- "So the board equals one where only the standing pieces were laid, in any order": laid by the rule
   pub any-order : laidAll j (fresh j) pieces ≡ run j (fresh j) calls
   any-order =
-      ap (λ (b : Board). laidAll j b pieces) (fresh-of j)
-      ∙ by-rule j maxColours (nothing j) pieces p (fresh-good j) (laid-so maxColours largest-may)
-      ∙ sym (says-all j calls)
+      ap (λ (b : Board). laidAll j b pieces) (fresh-of j sound)
+      ∙ by-rule j maxColours sound (nothing j) pieces p (fresh-good j) (laid-so maxColours largest-may)
+      ∙ sym (says-all j sound calls)
 
   -- laid by the call; each of those lays is accepted
   pub any-order-laid : (acceptedIn j (fresh j) (lays maxColours pieces) ≡ lays maxColours pieces) × (run j (fresh j) (lays maxColours pieces) ≡ run j (fresh j) calls)

@@ -29,7 +29,7 @@ use Rattle.rules.specs.Board.{Board, share, reach, weightsOf, countsOf, boardOf
 
 -- all that is asked of a shape: a region that lies inside and starts further than two cells from cell k does not show cell k
 pub record Sound (g : Shape) : Type 0 where
-  pub unseen : (k s i : ℕ) → k < g .cells → s < g .cells → i < 9 → g .whole s ≡ true → 2 < g .apart k s → g .place s i ≢ k
+  pub unseen : (k s i : ℕ) → i < 9 → g .whole s ≡ true → 2 < g .apart k s → g .place s i ≢ k
 
 -- equal planes make equal boards
 abbrev planes : List ℕ → List ℕ → List ℕ → Board
@@ -60,10 +60,18 @@ tab-low n m f h k =
     (λ ge. let a : getD (tab n f) k 0 ≡ 0 = List·getD-eq-default (tab n f) 0 (omega (arith, length-tab n f)) in omega arith)
     (lt-or-le k n)
 
+-- no piece stands on bare pieces
+pub bare-off : (n k : ℕ) → getD (tab n (λ i. bare)) k 0 ≤ 1
+bare-off n = tab-low n 1 (λ i. bare) (λ i i<. le-refl 1)
+
 -- of two tests that do not both hold, the first does not hold where the second does
 not-first : (a b : Bool) → b ≡ true → (a && b) ≡ false → a ≡ false
 not-first true b p e = never b p e
 not-first false b p e = refl
+
+-- a piece adds at most 3
+share-le : (d : ℕ) → share d ≤ 3
+share-le d = by-test (leb d 1) (λ e. rw e (omega arith)) (λ e. rw e (by-test (leb d 2) (λ f. rw f (omega arith)) (λ f. rw f (omega arith))))
 
 -- ---- fits
 
@@ -93,32 +101,33 @@ module _ (g : Shape) where
   abbrev term : List ℕ → ℕ → ℕ → ℕ
   term p k j = pick (laidOn p j) (reach g j k) 0
 
-  pub lay-weights : (p : List ℕ) (k v : ℕ) → length p ≡ g .cells → k < g .cells → laidOn p k ≡ false → 1 < v
-      → raised g k (weightsOf g p) ≡ weightsOf g (set p k v)
+  -- the weight of cell i on a board of n cells
+  abbrev weightAt : ℕ → List ℕ → ℕ → ℕ
+  weightAt n p i = 1 + sum n (term p i)
+
+  pub lay-weights : (p : List ℕ) (k v : ℕ) → k < length p → laidOn p k ≡ false → 1 < v → raised g k (weightsOf g p) ≡ weightsOf g (set p k v)
   unfolding raised weightsOf
-  lay-weights p k v long k< off on =
-      ap (λ (n : ℕ). tab n (λ i. getD (tab (g .cells) was) i 0 + reach g k i)) (length-tab (g .cells) was)
-      ∙ tab-ext (g .cells) (λ i. getD (tab (g .cells) was) i 0 + reach g k i) now at
+  lay-weights p k v k< off on =
+      ap (λ (n : ℕ). tab n (λ i. getD (tab (length p) was) i 0 + reach g k i)) (length-tab (length p) was)
+      ∙ tab-ext (length p) (λ i. getD (tab (length p) was) i 0 + reach g k i) (weightAt (length p) (set p k v)) at
+      ∙ ap (λ (n : ℕ). tab n (weightAt n (set p k v))) (sym (length-set p k v))
     where
       was : ℕ → ℕ
-      was i = 1 + sum (g .cells) (term p i)
-
-      now : ℕ → ℕ
-      now i = 1 + sum (g .cells) (term (set p k v) i)
+      was = weightAt (length p) p
 
       here : (i : ℕ) → term (set p k v) i k ≡ term p i k + reach g k i
       here i =
-          pick-yes (laidOn (set p k v) k) (reach g k i) 0 (ap (λ (x : ℕ). ltb 1 x) (getD-set-same p k v 0 (omega arith)) ∙ lt-ltb 1 v on)
+          pick-yes (laidOn (set p k v) k) (reach g k i) 0 (ap (λ (x : ℕ). ltb 1 x) (getD-set-same p k v 0 k<) ∙ lt-ltb 1 v on)
           ∙ sym (ap (λ (x : ℕ). x + reach g k i) (pick-no (laidOn p k) (reach g k i) 0 off) ∙ zero-add (reach g k i))
 
-      there : (i j : ℕ) → j < g .cells → j ≢ k → term (set p k v) i j ≡ term p i j
+      there : (i j : ℕ) → j < length p → j ≢ k → term (set p k v) i j ≡ term p i j
       there i j j< ne = ap (λ (x : ℕ). pick (ltb 1 x) (reach g j i) 0) (getD-set-other p k j v 0 ne)
 
-      at : (i : ℕ) → i < g .cells → getD (tab (g .cells) was) i 0 + reach g k i ≡ now i
+      at : (i : ℕ) → i < length p → getD (tab (length p) was) i 0 + reach g k i ≡ weightAt (length p) (set p k v) i
       at i i< =
-          let a : getD (tab (g .cells) was) i 0 ≡ was i = getD-tab (g .cells) was i 0 i< in
-          let b : sum (g .cells) (term (set p k v) i) ≡ sum (g .cells) (term p i) + reach g k i =
-          sum-one (g .cells) k (reach g k i) (term p i) (term (set p k v) i) k< (here i) (there i) in
+          let a : getD (tab (length p) was) i 0 ≡ was i = getD-tab (length p) was i 0 i< in
+          let b : sum (length p) (term (set p k v) i) ≡ sum (length p) (term p i) + reach g k i =
+          sum-one (length p) k (reach g k i) (term p i) (term (set p k v) i) k< (here i) (there i) in
           omega arith
 
   lowered-raised : (k : ℕ) (w : List ℕ) → lowered g k (raised g k w) ≡ w
@@ -134,9 +143,8 @@ module _ (g : Shape) where
       at i i< = let a : getD (tab (length w) up) i 0 ≡ up i = getD-tab (length w) up i 0 i< in omega arith
 
   -- the weights before the lift are those that laying the lifted piece again would leave
-  pub lift-weights : (p : List ℕ) (k : ℕ) → length p ≡ g .cells → k < g .cells → laidOn p k ≡ true
-      → lowered g k (weightsOf g p) ≡ weightsOf g (set p k bare)
-  lift-weights p k long k< on = ap (lowered g k) before ∙ lowered-raised k (weightsOf g (set p k bare))
+  pub lift-weights : (p : List ℕ) (k : ℕ) → k < length p → laidOn p k ≡ true → lowered g k (weightsOf g p) ≡ weightsOf g (set p k bare)
+  lift-weights p k k< on = ap (lowered g k) before ∙ lowered-raised k (weightsOf g (set p k bare))
     where
       back : set (set p k bare) k (getD p k 0) ≡ p
       back = set-set p k bare (getD p k 0) ∙ set-getD p k 0
@@ -144,8 +152,8 @@ module _ (g : Shape) where
       before : weightsOf g p ≡ raised g k (weightsOf g (set p k bare))
       before =
           sym
-          (lay-weights (set p k bare) k (getD p k 0) (length-set p k bare ∙ long) k<
-          (ap (λ (x : ℕ). ltb 1 x) (getD-set-same p k bare 0 (omega arith)))
+          (lay-weights (set p k bare) k (getD p k 0) (omega (arith, length-set p k bare))
+          (ap (λ (x : ℕ). ltb 1 x) (getD-set-same p k bare 0 k<))
           (ltb-true 1 (getD p k 0) on)
           ∙ ap (weightsOf g) back)
 
@@ -153,10 +161,12 @@ module _ (g : Shape) where
 
   module _ (sound : Sound g) (tiles : List ℕ) where
     -- recounting the near starts suffices
-    pub recount : (p : List ℕ) (k v : ℕ) → k < g .cells → recounted g tiles (set p k v) k (countsOf g tiles p) ≡ countsOf g tiles (set p k v)
+    pub recount : (p : List ℕ) (k v : ℕ) → recounted g tiles (set p k v) k (countsOf g tiles p) ≡ countsOf g tiles (set p k v)
     unfolding recounted countsOf
-    recount p k v k< =
-        ap (λ (n : ℕ). tab n again) (length-tab (g .cells) (counted p)) ∙ tab-ext (g .cells) again (counted (set p k v)) at
+    recount p k v =
+        ap (λ (n : ℕ). tab n again) (length-tab (length p) (counted p))
+        ∙ tab-ext (length p) again (counted (set p k v)) at
+        ∙ ap (λ (n : ℕ). tab n (counted (set p k v))) (sym (length-set p k v))
       where
         fits : List ℕ → ℕ → ℕ
         fits q s = fitCount tiles (pattern g q s)
@@ -165,19 +175,19 @@ module _ (g : Shape) where
         counted q s = pick (g .whole s) (fits q s) (tilesIn tiles)
 
         again : ℕ → ℕ
-        again s = pick (isRecounted g k s) (fits (set p k v) s) (getD (tab (g .cells) (counted p)) s 0)
+        again s = pick (isRecounted g k s) (fits (set p k v) s) (getD (tab (length p) (counted p)) s 0)
 
         -- a region that is not recounted lies inside and shows the same, or passes the edge
-        kept : (s : ℕ) → s < g .cells → isRecounted g k s ≡ false → counted p s ≡ counted (set p k v) s
-        kept s s< far =
+        kept : (s : ℕ) → isRecounted g k s ≡ false → counted p s ≡ counted (set p k v) s
+        kept s far =
             by-test (g .whole s)
             (λ inside.
             ap (λ (n : ℕ). pick (g .whole s) n (tilesIn tiles))
             (fit-ext tiles (pattern g p s) (pattern g (set p k v) s)
-            (λ i i<. ap (λ (x : ℕ). x - 1) (sym (getD-set-other p k (g .place s i) v 0 (sound .unseen k s i k< s< i< inside (leb-false (g .apart k s) 2 (not-first (leb (g .apart k s) 2) (g .whole s) inside far))))))))
+            (λ i i<. ap (λ (x : ℕ). x - 1) (sym (getD-set-other p k (g .place s i) v 0 (sound .unseen k s i i< inside (leb-false (g .apart k s) 2 (not-first (leb (g .apart k s) 2) (g .whole s) inside far))))))))
             (λ past. pick-no (g .whole s) (fits p s) (tilesIn tiles) past ∙ sym (pick-no (g .whole s) (fits (set p k v) s) (tilesIn tiles) past))
 
-        at : (s : ℕ) → s < g .cells → again s ≡ counted (set p k v) s
+        at : (s : ℕ) → s < length p → again s ≡ counted (set p k v) s
         at s s< =
             by-test (isRecounted g k s)
             (λ near.
@@ -185,38 +195,42 @@ module _ (g : Shape) where
             ∙ sym (pick-yes (g .whole s) (fits (set p k v) s) (tilesIn tiles) (and-right (leb (g .apart k s) 2) (g .whole s) near)))
             (λ far.
             pick-no (isRecounted g k s) (fits (set p k v) s) _ far
-            ∙ getD-tab (g .cells) (counted p) s 0 s<
-            ∙ kept s s< far)
+            ∙ getD-tab (length p) (counted p) s 0 s<
+            ∙ kept s far)
 
     -- ---- boards
 
-    pub laid-is : (p : List ℕ) (k colour : ℕ) → length p ≡ g .cells → k < g .cells → laidOn p k ≡ false → 0 < colour
+    pub laid-is : (p : List ℕ) (k colour : ℕ) → k < length p → laidOn p k ≡ false → 0 < colour
         → laid g tiles (boardOf g tiles p) k colour ≡ boardOf g tiles (set p k (colour + 1))
     unfolding laid boardOf
-    laid-is p k colour long k< off some = both (lay-weights p k (colour + 1) long k< off (omega arith)) (recount p k (colour + 1) k<)
+    laid-is p k colour k< off some = both (lay-weights p k (colour + 1) k< off (omega arith)) (recount p k (colour + 1))
 
-    pub lifted-is : (p : List ℕ) (k : ℕ) → length p ≡ g .cells → k < g .cells → laidOn p k ≡ true
+    pub lifted-is : (p : List ℕ) (k : ℕ) → k < length p → laidOn p k ≡ true
         → lifted g tiles (boardOf g tiles p) k ≡ boardOf g tiles (set p k bare)
     unfolding lifted boardOf
-    lifted-is p k long k< on = both (lift-weights p k long k< on) (recount p k bare k<)
+    lifted-is p k k< on = both (lift-weights p k k< on) (recount p k bare)
 
   -- ---- a board with nothing on it
 
-  -- no piece stands on bare pieces
-  pub bare-off : (k : ℕ) → getD (tab (g .cells) (λ i. bare)) k 0 ≤ 1
-  bare-off = tab-low (g .cells) 1 (λ i. bare) (λ i i<. le-refl 1)
-
-  pub fresh-is : (tiles : List ℕ) → freshBoard (g .cells) (tilesIn tiles) ≡ boardOf g tiles (tab (g .cells) (λ k. bare))
+  pub fresh-is : (tiles : List ℕ) (n : ℕ) → freshBoard n (tilesIn tiles) ≡ boardOf g tiles (tab n (λ k. bare))
   unfolding freshBoard boardOf weightsOf countsOf
-  fresh-is tiles =
+  fresh-is tiles n =
       both
-      (tab-ext (g .cells) (λ k. 1) (λ k. 1 + sum (g .cells) (term none k))
-      (λ k k<. sym (ap (λ (n : ℕ). 1 + n) (sum-none (g .cells) (term none k) (λ j j<. pick-no (laidOn none j) (reach g j k) 0 (le-ltb 1 (getD none j 0) (bare-off j)))))))
-      (tab-ext (g .cells) (λ s. tilesIn tiles) (λ s. pick (g .whole s) (fitCount tiles (pattern g none s)) (tilesIn tiles))
-      (λ s s<. sym (same (g .whole s) (fit-all tiles (pattern g none s) (λ i i<. omega (arith, bare-off (g .place s i)))))))
+      (tab-ext n (λ k. 1) (weightAt n none)
+      (λ k k<. sym (ap (λ (m : ℕ). 1 + m) (sum-none n (term none k) (λ j j<. pick-no (laidOn none j) (reach g j k) 0 (le-ltb 1 (getD none j 0) (bare-off n j))))))
+      ∙ ap (λ (m : ℕ). tab m (weightAt m none)) (sym long))
+      (tab-ext n (λ s. tilesIn tiles) counted
+      (λ s s<. sym (same (g .whole s) (fit-all tiles (pattern g none s) (λ i i<. omega (arith, bare-off n (g .place s i))))))
+      ∙ ap (λ (m : ℕ). tab m counted) (sym long))
     where
       none : List ℕ
-      none = tab (g .cells) (λ k. bare)
+      none = tab n (λ k. bare)
+
+      long : length none ≡ n
+      long = length-tab n (λ k. bare)
+
+      counted : ℕ → ℕ
+      counted s = pick (g .whole s) (fitCount tiles (pattern g none s)) (tilesIn tiles)
 
       same : (t : Bool) {n m : ℕ} → n ≡ m → pick t n m ≡ m
       same true e = e
@@ -224,23 +238,20 @@ module _ (g : Shape) where
 
   -- ---- bounds
 
-  pub weight-low : (p : List ℕ) (k : ℕ) → getD (weightsOf g p) k 0 ≤ 1 + g .cells * 3
+  pub weight-low : (p : List ℕ) (k : ℕ) → getD (weightsOf g p) k 0 ≤ 1 + length p * 3
   unfolding weightsOf
   weight-low p =
-      tab-low (g .cells) (1 + g .cells * 3) (λ k. 1 + sum (g .cells) (term p k))
-      (λ k k<. let a : sum (g .cells) (term p k) ≤ g .cells * 3 = sum-low (g .cells) 3 (term p k) (λ j j<. at (laidOn p j) (g .apart j k)) in omega arith)
+      tab-low (length p) (1 + length p * 3) (weightAt (length p) p)
+      (λ k k<. let a : sum (length p) (term p k) ≤ length p * 3 = sum-low (length p) 3 (term p k) (λ j j<. at (laidOn p j) (g .apart j k)) in omega arith)
     where
-      share-low : (d : ℕ) → share d ≤ 3
-      share-low d = by-test (leb d 1) (λ e. rw e (omega arith)) (λ e. rw e (by-test (leb d 2) (λ f. rw f (omega arith)) (λ f. rw f (omega arith))))
-
       at : (t : Bool) (d : ℕ) → pick t (share d) 0 ≤ 3
-      at true d = share-low d
+      at true d = share-le d
       at false d = omega arith
 
   pub count-low : (tiles p : List ℕ) (s : ℕ) → getD (countsOf g tiles p) s 0 ≤ tilesIn tiles
   unfolding countsOf
   count-low tiles p =
-      tab-low (g .cells) (tilesIn tiles) (λ s. pick (g .whole s) (fitCount tiles (pattern g p s)) (tilesIn tiles))
+      tab-low (length p) (tilesIn tiles) (λ s. pick (g .whole s) (fitCount tiles (pattern g p s)) (tilesIn tiles))
       (λ s s<. at (g .whole s) (fit-low tiles (pattern g p s)))
     where
       at : (t : Bool) {n m : ℕ} → n ≤ m → pick t n m ≤ m

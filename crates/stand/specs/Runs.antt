@@ -1,6 +1,6 @@
 -- Demand 3: runs of lay and lift from a fresh board, refused calls included; what their accepted calls say; the standing pieces alone.
 -- What the calls do, and what the pieces say of weights and counts, stands in the rules' Board.
-use Prim.Native.Nat.{ℕ, _+_, _*_, _/_, _%_}
+use Prim.Native.Nat.{ℕ, _+_, _*_}
 use mathlib.Core.Path.{_≡_}
 use mathlib.Core.Bool.{_&&_}
 use mathlib.Core.List.{List, [], _∷_, map}
@@ -13,25 +13,12 @@ use Rattle.base.specs.Refusal.{refusal, unlessRefused}
 use Rattle.rules.specs.Bounds.{bare}
 use Rattle.rules.specs.Tests.{tilesIn}
 use Rattle.rules.specs.Places.{samePlace}
-use Rattle.rules.specs.Grid.{Shape, flat, numberOf, laidOn, colourOn}
-use Rattle.rules.specs.Board.{Job, Board, freshBoard, laid, layChecks, liftChecks, afterLay, afterLift}
+use Rattle.rules.specs.Grid.{cellWith, laidOn, colourOn}
+use Rattle.rules.specs.Board.{Panel, shapeOf, cellIn, Board, freshBoard, laid, layChecks, liftChecks, afterLay, afterLift}
 use Rattle.rules.specs.declared.World.{World}
-use Rattle.rules.specs.declared.Offset.{Offset}
+use Rattle.rules.specs.declared.Cell.{Cell}
 
--- "with size, tiles and offset fixed"
-pub record Panel : Type 0 where
-  pub rows : ℕ
-  pub cols : ℕ
-  pub tiles : List ℕ
-  pub offset : Offset
-
-abbrev pub shapeOn : Panel → Shape
-shapeOn j = flat (j .rows) (j .cols)
-
-abbrev pub cellAt : Panel → World → ℕ
-cellAt j w = numberOf (j .cols) w (j .offset)
-
--- the fresh board of a panel
+-- "From a fresh board, with size, tiles and offset fixed": the fresh board of a panel
 abbrev pub fresh : Panel → Board
 fresh j = freshBoard (j .rows * j .cols) (tilesIn (j .tiles))
 
@@ -48,19 +35,15 @@ abbrev pub countOf : Call → ℕ
 countOf (lay count w colour) = count
 countOf (lift count w) = count
 
--- the panel as the job of a call that names so many colours
-abbrev pub jobOf : Panel → ℕ → Job
-jobOf j count = record { rows = j .rows; cols = j .cols; count = count; tiles = j .tiles; offset = j .offset }
-
 -- the number that a call is refused with, 0 where it is accepted
 abbrev pub refusalOf : Panel → Board → Call → ℕ
-refusalOf j b (lay count w colour) = refusal (layChecks (jobOf j count) b w colour)
-refusalOf j b (lift count w) = refusal (liftChecks (jobOf j count) b w)
+refusalOf j b (lay count w colour) = refusal (layChecks j count b w colour)
+refusalOf j b (lift count w) = refusal (liftChecks j count b w)
 
 -- the board that a call leaves, as the contracts of lay and lift say it
 abbrev pub step : Panel → Board → Call → Board
-step j b (lay count w colour) = afterLay (jobOf j count) b w colour
-step j b (lift count w) = afterLift (jobOf j count) b w
+step j b (lay count w colour) = afterLay j count b w colour
+step j b (lift count w) = afterLift j count b w
 
 -- one call after the other, whatever they answer
 unfoldable pub run : Panel → Board → List Call → Board
@@ -77,8 +60,8 @@ acceptedIn j b (c ∷ calls) =
 
 -- a lay says that its colour stands there, a lift that its cell is bare
 abbrev pub says : Panel → List ℕ → Call → List ℕ
-says j pieces (lay count w colour) = set pieces (cellAt j w) (colour + 1)
-says j pieces (lift count w) = set pieces (cellAt j w) bare
+says j pieces (lay count w colour) = set pieces (cellIn j w) (colour + 1)
+says j pieces (lift count w) = set pieces (cellIn j w) bare
 
 -- what the calls say one after the other, of a board that was bare
 unfoldable pub told : Panel → List Call → List ℕ
@@ -88,11 +71,11 @@ told j calls = fold (says j) (tab (j .rows * j .cols) (λ k. bare)) calls
 
 -- how many pieces stand at most one cell away from cell k
 unfoldable pub withinOne : Panel → List ℕ → ℕ → ℕ
-withinOne j pieces k = tally (j .rows * j .cols) (λ i. laidOn pieces i && leb (shapeOn j .apart i k) 1)
+withinOne j pieces k = tally (j .rows * j .cols) (λ i. laidOn pieces i && leb (shapeOf j .apart i k) 1)
 
 -- how many stand exactly two away
 unfoldable pub exactlyTwo : Panel → List ℕ → ℕ → ℕ
-exactlyTwo j pieces k = tally (j .rows * j .cols) (λ i. laidOn pieces i && eqb (shapeOn j .apart i k) 2)
+exactlyTwo j pieces k = tally (j .rows * j .cols) (λ i. laidOn pieces i && eqb (shapeOf j .apart i k) 2)
 
 -- ---- "only the standing pieces were laid, in any order"
 
@@ -102,7 +85,7 @@ pub record Piece : Type 0 where
 
 -- the wall coordinate of cell k: coordinate = index - offset
 unfoldable pub wallOf : Panel → ℕ → World
-wallOf j k = record { 0 = pos (k / j .cols) -ℤ j .offset .0; 1 = pos (k % j .cols) -ℤ j .offset .1 }
+wallOf j k = let c : Cell = cellWith (j .cols) k in record { 0 = pos (c .0) -ℤ j .offset .0; 1 = pos (c .1) -ℤ j .offset .1 }
 
 -- the standing pieces, row by row
 unfoldable pub standing : Panel → List ℕ → List Piece
@@ -118,7 +101,7 @@ pub data Reordered : List Piece → List Piece → Type 0 where
 
 -- each piece laid by the rule alone, without the checks of a call
 unfoldable pub laidAll : Panel → Board → List Piece → Board
-laidAll j b pieces = fold (λ c p. laid (shapeOn j) (j .tiles) c (cellAt j (p .place)) (p .colour)) b pieces
+laidAll j b pieces = fold (λ c p. laid (shapeOf j) (j .tiles) c (cellIn j (p .place)) (p .colour)) b pieces
 
 -- one call of lay for each piece, all of which name so many colours
 unfoldable pub lays : ℕ → List Piece → List Call
