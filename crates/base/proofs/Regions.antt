@@ -1,6 +1,6 @@
 -- A loop over the rows of a region of a lent plane, over any kind of entry and any step: each row's cells of the region are lent to a
 -- function that rewrites them. Cells outside the region stay as they are, so that the loop never visits them.
---     region-start, region-turn, region-done   before the first row; one row; past the last
+--     region-start, region-turn, region-row, region-done   before the first row; one row, whatever rewrote it or by the step; past the last
 --     region-is      the region's rewriting is the table of f, where f is the step inside the region and changes nothing outside
 --     row-none, row-turn, row-done   the loop of such a function along the row
 -- Assumes nothing.
@@ -89,6 +89,10 @@ module _ {A : Type 0} (none : A) (step : ℕ → ℕ → A → A) (cols top bott
       pub row-room : r < bottom → r * cols + cols ≤ length w
       row-room h = let b : (r + 1) * cols ≤ bottom * cols = mul-le-mul-right cols (omega arith) in omega (arith, next-row r cols, d .long, fits .room)
 
+      -- the cells that it lends are as they were
+      pub part-old : (a e j : ℕ) → r * cols ≤ a → a + j < e → e ≤ length l → getD (take (e - a) (drop a w)) j none ≡ getD l (a + j) none
+      part-old a e j h k b = part-at none w a e j k ∙ sweep-old (d .sweep) (a + j) (omega arith) (omega arith)
+
       -- row r is the next, and its cells of the region were lent to a function that left ys there
       pub region-turn : {ys : List A} {g : ℕ → A} (a e : ℕ) → a ≡ r * cols + left → e ≡ r * cols + right → r < bottom
           → ys ≡ tab (length (take (e - a) (drop a w))) g
@@ -127,6 +131,12 @@ module _ {A : Type 0} (none : A) (step : ℕ → ℕ → A → A) (cols top bott
               let high : j < r * cols + cols = omega (arith, next-row r cols) in
               outside j
               (and-no-right (between top bottom (j / cols)) _ (not-after left right (j % cols) (omega (arith, at-col r j cols low high)))))
+
+      -- the same, where that function did the step itself
+      pub region-row : {ys : List A} (a e : ℕ) → a ≡ r * cols + left → e ≡ r * cols + right → r < bottom
+          → ys ≡ overRow none step r left (take (e - a) (drop a w)) → RowsDone l (take a w ++ (ys ++ drop (e - a) (drop a w))) (r + 1)
+      unfolding overRow
+      region-row a e a-is e-is r< made = region-turn a e a-is e-is r< made (λ j h. refl)
 
       pub region-done : bottom ≤ r → w ≡ overRegion none step cols top bottom left right l
       unfolding overRegion

@@ -1,9 +1,9 @@
 -- Two results that meet the contract of a function coincide.
 -- Assumes nothing.
-use Prim.Native.Nat.{ℕ, max}
+use Prim.Native.Nat.{ℕ}
 use mathlib.Core.Path.{_≡_}
 use Rattle.base.proofs.Chain.{coincide}
-use Rattle.rules.specs.Grid.{gap}
+use Rattle.rules.specs.Grid.{cellAt, distance}
 use Rattle.rules.specs.declared.World.{World}
 use Rattle.rules.specs.declared.Offset.{Offset}
 use Rattle.rules.specs.declared.Cell.{Cell}
@@ -13,5 +13,5 @@ use Rattle.nearness.specs.Near.{nearSpans}
 pub near-spans : (rows cols : ℕ) (w : World) (o : Offset) {r s : SpanAnswer} → r ≡ nearSpans rows cols w o → s ≡ nearSpans rows cols w o → r ≡ s
 near-spans rows cols w o p q = coincide p q
 
-pub distance : (cell : Cell) (row col : ℕ) {r s : ℕ} → r ≡ max (gap (cell .0) row) (gap (cell .1) col) → s ≡ max (gap (cell .0) row) (gap (cell .1) col) → r ≡ s
-distance cell row col p q = coincide p q
+pub distance-of : (cell : Cell) (row col : ℕ) {r s : ℕ} → r ≡ distance cell (cellAt row col) → s ≡ distance cell (cellAt row col) → r ≡ s
+distance-of cell row col p q = coincide p q

@@ -1,5 +1,3 @@
-pub mod Rows
-pub mod Spans
 pub mod Nearby
 pub mod Placing
 pub mod Leaning

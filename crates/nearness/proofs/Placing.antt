@@ -5,7 +5,7 @@ use mathlib.Core.Path.{_≡_, refl, sym, _∙_, ap}
 use mathlib.Core.Bool.{true, false}
 use native.Mathlib.Omega.{arith}
 use lib.IntN.{_+ℤ_}
-use Rattle.base.specs.Refusal.{accepted, refusal}
+use Rattle.base.specs.Refusal.{refusal}
 use Rattle.base.proofs.Bools.{by-test}
 use Rattle.rules.specs.Bounds.{PLACE}
 use Rattle.rules.specs.Tests.{onWall, offsetFits, onBoard}
@@ -17,7 +17,7 @@ use Rattle.rules.specs.declared.Offset.{Offset}
 use Rattle.rules.specs.declared.Span.{Span}
 use Rattle.rules.specs.declared.SpanAnswer.{SpanAnswer}
 use Rattle.rules.specs.declared.SpanAnswer.the-variants.{Spans, Refused}
-use Rattle.places.proofs.Indices.{row-span, col-span}
+use Rattle.places.proofs.Indices.{placed, row-span, col-span}
 use Rattle.nearness.specs.Near.{Nearby, endClipped, nearSpans}
 
 -- two cases of an answer are never equal
@@ -26,7 +26,7 @@ apart-answers n r c a p q = absurd (let z : _≡_ {A = ℕ} 0 1 = cc in omega ar
 
 module _ (rows cols : ℕ) (w : World) (o : Offset) where
   -- a place is refused by PLACE or not at all
-  place-is : (n : ℕ) → refusal (placeChecks rows cols w o accepted) ≡ suc n → refusal (placeChecks rows cols w o accepted) ≡ PLACE
+  place-is : (n : ℕ) → refusal (placeChecks rows cols w o) ≡ suc n → refusal (placeChecks rows cols w o) ≡ PLACE
   unfolding refusal
   place-is n e =
       by-test (onWall w)
@@ -38,11 +38,11 @@ module _ (rows cols : ℕ) (w : World) (o : Offset) where
       out : suc n ≡ 0 → ⊥
       out z = omega arith
 
-  off-board : onBoard rows cols w o ≡ false → refusal (placeChecks rows cols w o accepted) ≡ PLACE
+  off-board : onBoard rows cols w o ≡ false → refusal (placeChecks rows cols w o) ≡ PLACE
   unfolding refusal
   off-board r = by-test (onWall w) (λ p. by-test (offsetFits o) (λ q. rw (p, q, r)) (λ q. rw (p, q))) (λ p. rw p)
 
-  pub place-refused : refusal (placeChecks rows cols w o accepted) ≡ PLACE → Refused PLACE ≡ nearSpans rows cols w o
+  pub place-refused : refusal (placeChecks rows cols w o) ≡ PLACE → Refused PLACE ≡ nearSpans rows cols w o
   unfolding nearSpans
   place-refused e = rw e
 
@@ -71,29 +71,30 @@ module _ (rows cols : ℕ) (w : World) (o : Offset) where
       (λ q. apart-answers PLACE d c a z (e ∙ rw (p, q))))
       (λ p. apart-answers PLACE d c a z (e ∙ rw p))
 
-  -- what a caller learns of each way
-  pub near-refused : (a : SpanAnswer) (n : ℕ) → a ≡ Refused n → a ≡ nearSpans rows cols w o → refusal (placeChecks rows cols w o accepted) ≡ PLACE
+  -- what a caller learns of each way, for `search` beside `chain`
+  pub place-stops : (a : SpanAnswer) (n : ℕ) → a ≡ Refused n → a ≡ nearSpans rows cols w o → PLACE ≡ refusal (placeChecks rows cols w o)
   unfolding nearSpans
-  near-refused a n z e = at (refusal (placeChecks rows cols w o accepted)) (λ m p. place-is m p) refl e
+  place-stops a n z e = sym (at (refusal (placeChecks rows cols w o)) (λ m p. place-is m p) refl e)
     where
-      at : (m : ℕ) → ((k : ℕ) → refusal (placeChecks rows cols w o accepted) ≡ suc k → refusal (placeChecks rows cols w o accepted) ≡ PLACE)
-          → refusal (placeChecks rows cols w o accepted) ≡ m
-          → a ≡ spanAnswer m (endClipped rows (spanOf (w .0 +ℤ o .0) 2)) (endClipped cols (spanOf (w .1 +ℤ o .1) 2)) → refusal (placeChecks rows cols w o accepted) ≡ PLACE
+      at : (m : ℕ) → ((k : ℕ) → refusal (placeChecks rows cols w o) ≡ suc k → refusal (placeChecks rows cols w o) ≡ PLACE)
+          → refusal (placeChecks rows cols w o) ≡ m
+          → a ≡ spanAnswer m (endClipped rows (spanOf (w .0 +ℤ o .0) 2)) (endClipped cols (spanOf (w .1 +ℤ o .1) 2)) → refusal (placeChecks rows cols w o) ≡ PLACE
       at zero f p q = apart-answers n _ _ a q z
       at (suc m) f p q = f m p
 
-  pub near-passed : (a : SpanAnswer) (d c : Span) → a ≡ Spans d c → a ≡ nearSpans rows cols w o → refusal (placeChecks rows cols w o accepted) ≡ 0
+  pub place-passes : (a : SpanAnswer) (d c : Span) → a ≡ Spans d c → a ≡ nearSpans rows cols w o → 0 ≡ refusal (placeChecks rows cols w o)
   unfolding nearSpans
-  near-passed a d c z e = at (refusal (placeChecks rows cols w o accepted)) e
+  place-passes a d c z e = sym (at (refusal (placeChecks rows cols w o)) e)
     where
       at : (m : ℕ) → a ≡ spanAnswer m (endClipped rows (spanOf (w .0 +ℤ o .0) 2)) (endClipped cols (spanOf (w .1 +ℤ o .1) 2)) → m ≡ 0
       at zero q = refl
       at (suc m) q = apart-answers (suc m) d c a z q
 
-  pub nearby : (a : SpanAnswer) (d c : Span) → a ≡ Spans d c → a ≡ nearSpans rows cols w o → onBoard rows cols w o ≡ true → Nearby rows cols (cellOf w o) d c
+  pub nearby : (a : SpanAnswer) (d c : Span) → a ≡ Spans d c → a ≡ nearSpans rows cols w o → Nearby rows cols (cellOf w o) d c
   unfolding nearSpans
-  nearby a d c z e h =
-      let y : a ≡ Spans (endClipped rows (spanOf (w .0 +ℤ o .0) 2)) (endClipped cols (spanOf (w .1 +ℤ o .1) 2)) = e ∙ rw (near-passed a d c z e) in
+  nearby a d c z e =
+      let h : onBoard rows cols w o ≡ true = placed rows cols w o (sym (place-passes a d c z e)) .boarded in
+      let y : a ≡ Spans (endClipped rows (spanOf (w .0 +ℤ o .0) 2)) (endClipped cols (spanOf (w .1 +ℤ o .1) 2)) = e ∙ rw (sym (place-passes a d c z e)) in
       let u : d ≡ endClipped rows (spanOf (w .0 +ℤ o .0) 2) = cc in
       let v : c ≡ endClipped cols (spanOf (w .1 +ℤ o .1) 2) = cc in
       let s = row-span rows cols w o h 2 in
@@ -107,3 +108,5 @@ module _ (rows cols : ℕ) (w : World) (o : Offset) where
     where
       three : (x : ℕ) → x + 2 + 1 ≡ x + 3
       three x = omega arith
+
+pub ruleset placing = (place-stops, place-passes)

@@ -1,14 +1,13 @@
 -- What loops over the span of radius 2 round a cell lean on, and the spans that `near_spans` gives. The calls themselves are stated by
 -- document 01's definitions.
-use Prim.Native.Nat.{ℕ, _+_, _-_, _*_, _<_, _≤_, min, max}
+use Prim.Native.Nat.{ℕ, _+_, _-_, _*_, _<_, _≤_, min}
 use mathlib.Core.Path.{_≡_}
 use mathlib.Core.List.{List}
 use lib.IntN.{_+ℤ_}
 use lib.ListN.{length}
-use Rattle.base.specs.Refusal.{accepted, refusal}
-use Rattle.rules.specs.Bounds.{maxBoardSide, maxCells}
+use Rattle.base.specs.Refusal.{refusal}
+use Rattle.rules.specs.Bounds.{maxBoardSide}
 use Rattle.rules.specs.Answers.{spanAnswer}
-use Rattle.rules.specs.Grid.{gap}
 use Rattle.rules.specs.Places.{spanOf}
 use Rattle.rules.specs.Fit.{placeChecks}
 use Rattle.rules.specs.declared.World.{World}
@@ -25,26 +24,12 @@ pub record OnPlane (plane : List ℕ) (rows cols : ℕ) (cell : Cell) : Type 0 w
   pub down : cell .0 < rows
   pub across : cell .1 < cols
 
--- the columns from..to of a row of such a plane
-pub record InRow (plane : List ℕ) (cols row from to : ℕ) : Type 0 where
-  pub ordered : from ≤ to
-  pub inside : to ≤ cols
-  pub held : row * cols + cols ≤ length plane
-  pub short : length plane ≤ maxCells
-
 -- the spans of radius 2 round a cell, their ends clipped to the sides
 pub record Nearby (rows cols : ℕ) (cell : Cell) (down across : Span) : Type 0 where
   pub top : down .0 ≡ cell .0 - 2
   pub bottom : down .1 ≡ min (cell .0 + 3) rows
   pub left : across .0 ≡ cell .1 - 2
   pub right : across .1 ≡ min (cell .1 + 3) cols
-
--- within distance 2 of a cell: one place, and the columns from..to of a row
-abbrev pub Close : Cell → ℕ → ℕ → Type 0
-Close cell row col = max (gap (cell .0) row) (gap (cell .1) col) ≤ 2
-
-abbrev pub InReach : Cell → ℕ → ℕ → ℕ → Type 0
-InReach cell row from to = (col : ℕ) → from ≤ col → col < to → Close cell row col
 
 -- those spans of a place that has to lie on the board
 abbrev pub endClipped : ℕ → Span → Span
@@ -53,6 +38,6 @@ endClipped side s = record { 0 = s .0; 1 = min (s .1) side }
 unfoldable pub nearSpans : ℕ → ℕ → World → Offset → SpanAnswer
 nearSpans rows cols w o =
     spanAnswer
-    (refusal (placeChecks rows cols w o accepted))
+    (refusal (placeChecks rows cols w o))
     (endClipped rows (spanOf (w .0 +ℤ o .0) 2))
     (endClipped cols (spanOf (w .1 +ℤ o .1) 2))

@@ -1,7 +1,7 @@
 // What is near a cell: the distance of two cells, and the spans of radius 2 round a place on the board.
 ghost use mathlib.Core.Path.{_≡_};
 ghost use Prim.Native.Nat.{max};
-ghost use Rattle.rules.specs.Grid.{gap};
+ghost use Rattle.rules.specs.Grid.{cellAt, gap, distance};
 ghost use Rattle.nearness.specs.Near.{endClipped, nearSpans};
 use places::on_board;
 use rules::Cell;
@@ -25,7 +25,7 @@ fn larger(a: usize, b: usize) -> usize
 
 // The distance of `cell` and (row, col).
 pub fn distance(cell: Cell, row: usize, col: usize) -> usize
-    ensures { λ r. ⌜ r ≡ max (gap (cell .0) row) (gap (cell .1) col) ⌝ }
+    ensures { λ r. ⌜ r ≡ distance cell (cellAt row col) ⌝ }
 {
     let down = gap_of(cell.0, row);
     let across = gap_of(cell.1, col);

@@ -1,3 +1,4 @@
 pub mod Bench
 pub mod Answered
 pub mod Lowest
+pub mod Shares

@@ -46,8 +46,11 @@ numberOrPast rows cols k = pick (onGrid rows cols k) (numberOf cols k) (rows * c
 abbrev pub gap : ℕ → ℕ → ℕ
 gap a b = (a - b) + (b - a)
 
--- The flat board. A window starting above or left is skipped; one past the bottom or right stays. Distance is the larger of
--- row and column difference.
+-- Distance is the larger of row and column difference
+abbrev pub distance : Cell → Cell → ℕ
+distance j k = max (gap (j .0) (k .0)) (gap (j .1) (k .1))
+
+-- The flat board. A window starting above or left is skipped; one past the bottom or right stays
 unfoldable pub flat : Kind
 flat rows cols =
     record {
@@ -55,7 +58,7 @@ flat rows cols =
       start = λ k q. numberOf cols (cellAt (k / cols - q / 3) (k % cols - q % 3));
       place = λ s i. numberOrPast rows cols (cellAt (s / cols + i / 3) (s % cols + i % 3));
       whole = λ s. ltb (s / cols + 2) rows && ltb (s % cols + 2) cols;
-      apart = λ j k. max (gap (j / cols) (k / cols)) (gap (j % cols) (k % cols));
+      apart = λ j k. distance (cellWith cols j) (cellWith cols k);
     }
 
 -- the colour that stands on cell k, 0 where it is bare or past the edge

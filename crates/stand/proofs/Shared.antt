@@ -25,6 +25,7 @@ use Rattle.rules.specs.Bounds.{bare}
 use Rattle.rules.specs.Tests.{tilesIn}
 use Rattle.rules.specs.Grid.{Shape, laidOn}
 use Rattle.rules.specs.Fit.{pattern, agrees, agreesAt, fitsTile, fitCount}
+use Rattle.rules.proofs.Shares.{share-le}
 use Rattle.rules.specs.Board.{Board, share, reach, weightsOf, countsOf, boardOf, raised, lowered, isRecounted, recounted, laid, lifted, freshBoard}
 
 -- all that is asked of a shape: a region that lies inside and starts further than two cells from cell k does not show cell k
@@ -68,10 +69,6 @@ bare-off n = tab-low n 1 (λ i. bare) (λ i i<. le-refl 1)
 not-first : (a b : Bool) → b ≡ true → (a && b) ≡ false → a ≡ false
 not-first true b p e = never b p e
 not-first false b p e = refl
-
--- a piece adds at most 3
-share-le : (d : ℕ) → share d ≤ 3
-share-le d = by-test (leb d 1) (λ e. rw e (omega arith)) (λ e. rw e (by-test (leb d 2) (λ f. rw f (omega arith)) (λ f. rw f (omega arith))))
 
 -- ---- fits
 

@@ -3,19 +3,16 @@
 use Prim.Native.Nat.{ℕ}
 use mathlib.Core.Path.{_≡_}
 use mathlib.Core.List.{List}
-use Rattle.base.specs.Refusal.{refusal, Gives}
 use Rattle.base.proofs.Chain.{gives-coincide}
-use Rattle.rules.specs.Answers.{writtenAnswer}
-use Rattle.rules.specs.Board.{weightChecks, afterRaise, afterLower}
+use Rattle.rules.specs.Grid.{flat}
+use Rattle.rules.specs.Promises.{Raises, Lowers}
 use Rattle.rules.specs.declared.World.{World}
 use Rattle.rules.specs.declared.Offset.{Offset}
 use Rattle.rules.specs.declared.Written.{Written}
 
-module _ (weights : List ℕ) (rows cols : ℕ) (w : World) (o : Offset) {a c : Written} {l m : List ℕ} where
-  pub raise-coincide : Gives (writtenAnswer (refusal (weightChecks weights rows cols w o))) (afterRaise weights rows cols w o) a l
-      → Gives (writtenAnswer (refusal (weightChecks weights rows cols w o))) (afterRaise weights rows cols w o) c m → (a ≡ c) × (l ≡ m)
+module _ (rows cols : ℕ) (w : World) (o : Offset) (old : List ℕ) {a c : Written} {l m : List ℕ} where
+  pub raise-coincide : Raises flat rows cols w o old a l → Raises flat rows cols w o old c m → (a ≡ c) × (l ≡ m)
   raise-coincide p q = gives-coincide p q
 
-  pub revert-coincide : Gives (writtenAnswer (refusal (weightChecks weights rows cols w o))) (afterLower weights rows cols w o) a l
-      → Gives (writtenAnswer (refusal (weightChecks weights rows cols w o))) (afterLower weights rows cols w o) c m → (a ≡ c) × (l ≡ m)
+  pub revert-coincide : Lowers flat rows cols w o old a l → Lowers flat rows cols w o old c m → (a ≡ c) × (l ≡ m)
   revert-coincide p q = gives-coincide p q

@@ -1,8 +1,9 @@
 // Document 01, "Weights, counts, scores": the two calls on a weights plane, their checks first. A refused call changes nothing.
 ghost use mathlib.Core.Path.{_≡_};
-ghost use Rattle.base.specs.Refusal.{Gives, accepted, refusal};
-ghost use Rattle.rules.specs.Answers.{writtenAnswer};
-ghost use Rattle.rules.specs.Board.{weightPlaneChecks, weightChecks, afterRaise, afterLower};
+ghost use Rattle.base.specs.Refusal.{refusal};
+ghost use Rattle.rules.specs.Grid.{flat};
+ghost use Rattle.rules.specs.Board.{weightPlaneChecks};
+ghost use Rattle.rules.specs.Promises.{before, after, Raises, Lowers};
 use checks::board_sides;
 use checks::cells_of;
 use checks::words_have_length;
@@ -18,7 +19,7 @@ use weights::raise_near;
 
 // SHAPE, LENGTH and CELL of a weights plane, 0 where all pass.
 fn weights_refused(weights: &[u32], rows: usize, cols: usize) -> u8
-    ensures { λ r. ⌜ r ≡ refusal (weightPlaneChecks (now (weights .entry)) rows cols accepted) ⌝ }
+    ensures { λ r. ⌜ r ≡ refusal (weightPlaneChecks (before weights) rows cols) ⌝ }
 {
     if !board_sides(rows, cols) {
         return rules::SHAPE;
@@ -41,7 +42,7 @@ pub fn raise_adjacency_weights(
     position: World,
     offset: Offset,
 ) -> Written
-    ensures { λ a. ⌜ Gives (writtenAnswer (refusal (weightChecks (now (weights .entry)) rows cols position offset))) (afterRaise (now (weights .entry)) rows cols position offset) a (now (weights .exit)) ⌝ }
+    ensures { λ a. ⌜ Raises flat rows cols position offset (before weights) a (after weights) ⌝ }
 {
     let no = weights_refused(weights, rows, cols);
     if no != 0 {
@@ -63,7 +64,7 @@ pub fn revert_adjacency_weights(
     position: World,
     offset: Offset,
 ) -> Written
-    ensures { λ a. ⌜ Gives (writtenAnswer (refusal (weightChecks (now (weights .entry)) rows cols position offset))) (afterLower (now (weights .entry)) rows cols position offset) a (now (weights .exit)) ⌝ }
+    ensures { λ a. ⌜ Lowers flat rows cols position offset (before weights) a (after weights) ⌝ }
 {
     let no = weights_refused(weights, rows, cols);
     if no != 0 {

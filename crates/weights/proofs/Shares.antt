@@ -1,59 +1,43 @@
--- Laws of what a piece adds near its cell: a share is at most 3; at (row, col) it goes by the differences of row and column; further than 2
--- away nothing is added.
+-- What the loops over the spans round a cell write is what document 01 says of the whole plane: further than 2 away nothing is added.
 -- Assumes nothing.
-use Prim.Native.Nat.{ℕ, _+_, _-_, _*_, _/_, _%_, _<_, _≤_, max}
-use mathlib.Core.Path.{_≡_, sym, ap}
+use Prim.Native.Nat.{ℕ, _+_, _-_, _*_, _<_, _≤_}
+use mathlib.Core.Path.{_≡_, refl, _∙_, ap}
 use mathlib.Core.List.{List}
 use native.Mathlib.Omega.{arith}
-use lib.Dec.{leb}
 use lib.ListN.{length, getD}
-use borrow.Author.Tests.{lt-leb}
 use Rattle.base.specs.Tables.{tab}
-use Rattle.base.proofs.Bools.{by-test}
-use Rattle.base.proofs.Numbers.{row-of, col-of}
-use Rattle.base.proofs.Tabled.{tab-ext}
-use Rattle.rules.specs.Grid.{gap, flat}
+use Rattle.base.specs.Regions.{overRegion}
+use Rattle.base.proofs.Regions.{region-is}
+use Rattle.rules.specs.Grid.{numberOf, cellWith, distance, flat}
 use Rattle.rules.specs.Board.{share, reach, raised, lowered}
 use Rattle.rules.specs.declared.Cell.{Cell}
-use Rattle.nearness.proofs.Nearby.{Far}
-use Rattle.weights.specs.Shares.{shareAt, raisedAt, loweredAt}
+use Rattle.rules.specs.declared.Span.{Span}
+use Rattle.rules.proofs.Shares.{share-far}
+use Rattle.nearness.specs.Near.{OnPlane, Nearby}
+use Rattle.nearness.proofs.Nearby.{apart-is, near-far}
+use Rattle.weights.specs.Shares.{raisedBy, loweredBy}
 
-pub share-le : (d : ℕ) → share d ≤ 3
-share-le d = by-test (leb d 1) (λ e. rw e (omega arith)) (λ e. rw e (by-test (leb d 2) (λ f. rw f (omega arith)) (λ f. rw f (omega arith))))
+module _ (rows cols : ℕ) (cell : Cell) (down across : Span) (l : List ℕ) (on : OnPlane l rows cols cell) (near : Nearby rows cols cell down across) where
+  reach-is : (k : ℕ) → reach (flat rows cols) (numberOf cols cell) k ≡ share (distance cell (cellWith cols k))
+  reach-is k = ap (λ (n : ℕ). share n) (apart-is rows cols cell k (on .across))
 
-share-far : (d : ℕ) → 2 < d → share d ≡ 0
-share-far d h = rw (lt-leb d 1 (omega arith), lt-leb d 2 h)
+  -- a step that adds or takes a share, over the spans, is the same over the whole plane
+  by-share : (step : ℕ → ℕ → ℕ) → ((x : ℕ) → step x 0 ≡ x) → (f : ℕ → ℕ)
+      → ((k : ℕ) → f k ≡ step (getD l k 0) (reach (flat rows cols) (numberOf cols cell) k))
+      → overRegion 0 (λ r c x. step x (share (distance cell (record { 0 = r; 1 = c })))) cols (down .0) (down .1) (across .0) (across .1) l
+      ≡ tab (length l) f
+  by-share step none f is =
+      region-is 0 _ cols (down .0) (down .1) (across .0) (across .1) l f
+      (λ k k< e. is k ∙ ap (step (getD l k 0)) (reach-is k))
+      (λ k k< e.
+      is k
+      ∙ ap (step (getD l k 0)) (reach-is k ∙ share-far _ (near-far rows cols cell down across near k (omega (arith, on .across)) (omega (arith, on .long)) e))
+      ∙ none (getD l k 0))
 
-pub share-cell : (cols : ℕ) (cell : Cell) (row col : ℕ) → col < cols → shareAt cols cell (row * cols + col) ≡ share (max (gap (cell .0) row) (gap (cell .1) col))
-unfolding shareAt
-share-cell cols cell row col h = rw (row-of row {c = col} {cols = cols} h, col-of row {c = col} {cols = cols} h)
-
--- a cell that is further than 2 from the piece
-module _ (cols : ℕ) (cell : Cell) (i : ℕ) (h : 2 < max (gap (cell .0) (i / cols)) (gap (cell .1) (i % cols))) where
-  share-none : shareAt cols cell i ≡ 0
-  unfolding shareAt
-  share-none = share-far (max (gap (cell .0) (i / cols)) (gap (cell .1) (i % cols))) h
-
-pub raised-far : (cols : ℕ) (cell : Cell) → Far (raisedAt cols cell) cols cell
-raised-far cols cell l i h = omega (arith, share-none cols cell i h)
-
-pub lowered-far : (cols : ℕ) (cell : Cell) → Far (loweredAt cols cell) cols cell
-lowered-far cols cell l i h = omega (arith, share-none cols cell i h)
-
--- what the loops write is what document 01 says, on the flat board
-module _ (rows cols : ℕ) (cell : Cell) (h : cell .1 < cols) where
-  apart-is : (i : ℕ) → flat rows cols .apart (cell .0 * cols + cell .1) i ≡ max (gap (cell .0) (i / cols)) (gap (cell .1) (i % cols))
-  unfolding flat
-  apart-is i = rw (row-of (cell .0) {c = cell .1} {cols = cols} h, col-of (cell .0) {c = cell .1} {cols = cols} h)
-
-  reach-is : (i : ℕ) → reach (flat rows cols) (cell .0 * cols + cell .1) i ≡ shareAt cols cell i
-  unfolding shareAt
-  reach-is i = ap (λ (n : ℕ). share n) (apart-is i)
-
-  pub raised-is : (l : List ℕ) → tab (length l) (raisedAt cols cell l) ≡ raised (flat rows cols) (cell .0 * cols + cell .1) l
+  pub raised-is : overRegion 0 (raisedBy cell) cols (down .0) (down .1) (across .0) (across .1) l ≡ raised (flat rows cols) (numberOf cols cell) l
   unfolding raised
-  raised-is l = tab-ext (length l) _ _ (λ i k. ap (λ (n : ℕ). getD l i 0 + n) (sym (reach-is i)))
+  raised-is = by-share _+_ (λ x. omega arith) _ (λ k. refl)
 
-  pub lowered-is : (l : List ℕ) → tab (length l) (loweredAt cols cell l) ≡ lowered (flat rows cols) (cell .0 * cols + cell .1) l
+  pub lowered-is : overRegion 0 (loweredBy cell) cols (down .0) (down .1) (across .0) (across .1) l ≡ lowered (flat rows cols) (numberOf cols cell) l
   unfolding lowered
-  lowered-is l = tab-ext (length l) _ _ (λ i k. ap (λ (n : ℕ). getD l i 0 - n) (sym (reach-is i)))
+  lowered-is = by-share _-_ (λ x. omega arith) _ (λ k. refl)

@@ -1,14 +1,15 @@
 // Document 01, "Weights, counts, scores": the weights that a piece adds and takes back by the rule alone, its checks made. The loops run
 // over the span of radius 2 round the piece and leave every other cell alone.
 ghost use mathlib.Core.Path.{_≡_};
-ghost use Prim.Native.Nat.{ℕ, _+_, _-_, _*_, max};
-ghost use mathlib.Core.List.{List};
+ghost use Prim.Native.Nat.{_+_, _-_, _≤_};
 ghost use lib.ListN.{length};
-ghost use Rattle.base.proofs.Swept.{swept};
-ghost use Rattle.rules.specs.Grid.{gap, flat};
+ghost use Rattle.base.specs.Regions.{overRow};
+ghost use Rattle.rules.specs.Bounds.{maxBoardSide};
+ghost use Rattle.rules.specs.Grid.{cellAt, numberOf, distance, flat};
 ghost use Rattle.rules.specs.Board.{share, raised, lowered};
-ghost use Rattle.nearness.specs.Near.{OnPlane, InRow, Nearby};
-ghost use Rattle.weights.specs.Shares.{raisedAt, loweredAt, lightFrom};
+ghost use Rattle.rules.specs.Promises.{before, after};
+ghost use Rattle.nearness.specs.Near.{OnPlane, Nearby};
+ghost use Rattle.weights.specs.Shares.{raisedBy, loweredBy, Light};
 use nearness::distance;
 use rules::Cell;
 use rules::Span;
@@ -28,7 +29,7 @@ fn share_of(distance: usize) -> u32
 
 // What a piece on `cell` adds at (row, col).
 fn share_at(cell: Cell, row: usize, col: usize) -> u32
-    ensures { λ r. ⌜ r ≡ share (max (gap (cell .0) row) (gap (cell .1) col)) ⌝ }
+    ensures { λ r. ⌜ r ≡ share (distance cell (cellAt row col)) ⌝ }
 {
     share_of(distance(cell, row, col))
 }
@@ -39,28 +40,26 @@ fn less(n: u32, m: u32) -> u32
     if m < n { n - m } else { 0 }
 }
 
-// One row of the span. Whatever plane the rows above were raised from, this row is raised from it too.
-fn raise_row(weights: &mut [u32], cols: usize, row: usize, from: usize, to: usize, cell: Cell)
-    requires { ⌜ (InRow (now weights) cols row from to) × (lightFrom (row * cols + from) (now weights)) ⌝ }
-    ensures { λ _. ⌜ ((l : List ℕ) → length l ≡ length (now (weights .entry)) → now (weights .entry) ≡ swept 0 (row * cols + from) (raisedAt cols cell l) l → now (weights .exit) ≡ swept 0 (row * cols + to) (raisedAt cols cell l) l) ⌝ }
+// The cells of a row from column `left` on.
+fn raise_row(part: &mut [u32], cell: Cell, row: usize, left: usize)
+    requires { ⌜ (left + length (now part) ≤ maxBoardSide) × (Light (now part)) ⌝ }
+    ensures { λ _. ⌜ after part ≡ overRow 0 (raisedBy cell) row left (before part) ⌝ }
 {
-    let mut col = from;
-    while col < to {
-        let k = row * cols + col;
-        weights[k] = weights[k] + share_at(cell, row, col);
-        col += 1;
+    let mut j = 0;
+    while j < part.len() {
+        part[j] = part[j] + share_at(cell, row, left + j);
+        j += 1;
     }
 }
 
-fn lower_row(weights: &mut [u32], cols: usize, row: usize, from: usize, to: usize, cell: Cell)
-    requires { ⌜ InRow (now weights) cols row from to ⌝ }
-    ensures { λ _. ⌜ ((l : List ℕ) → length l ≡ length (now (weights .entry)) → now (weights .entry) ≡ swept 0 (row * cols + from) (loweredAt cols cell l) l → now (weights .exit) ≡ swept 0 (row * cols + to) (loweredAt cols cell l) l) ⌝ }
+fn lower_row(part: &mut [u32], cell: Cell, row: usize, left: usize)
+    requires { ⌜ left + length (now part) ≤ maxBoardSide ⌝ }
+    ensures { λ _. ⌜ after part ≡ overRow 0 (loweredBy cell) row left (before part) ⌝ }
 {
-    let mut col = from;
-    while col < to {
-        let k = row * cols + col;
-        weights[k] = less(weights[k], share_at(cell, row, col));
-        col += 1;
+    let mut j = 0;
+    while j < part.len() {
+        part[j] = less(part[j], share_at(cell, row, left + j));
+        j += 1;
     }
 }
 
@@ -73,15 +72,14 @@ pub fn raise_near(
     down: Span,
     across: Span,
 )
-    requires { ⌜ (OnPlane (now weights) rows cols cell) × (Nearby rows cols cell down across) × (lightFrom 0 (now weights)) ⌝ }
-    ensures { λ _. ⌜ now (weights .exit) ≡ raised (flat rows cols) (cell .0 * cols + cell .1) (now (weights .entry)) ⌝ }
+    requires { ⌜ (OnPlane (now weights) rows cols cell) × (Nearby rows cols cell down across) × (Light (now weights)) ⌝ }
+    ensures { λ _. ⌜ after weights ≡ raised (flat rows cols) (numberOf cols cell) (before weights) ⌝ }
 {
-    let from = across.0;
-    let to = across.1;
-    let bottom = down.1;
     let mut row = down.0;
-    while row < bottom {
-        raise_row(weights, cols, row, from, to, cell);
+    while row < down.1 {
+        let from = row * cols + across.0;
+        let to = row * cols + across.1;
+        raise_row(&mut weights[from..to], cell, row, across.0);
         row += 1;
     }
 }
@@ -96,14 +94,13 @@ pub fn lower_near(
     across: Span,
 )
     requires { ⌜ (OnPlane (now weights) rows cols cell) × (Nearby rows cols cell down across) ⌝ }
-    ensures { λ _. ⌜ now (weights .exit) ≡ lowered (flat rows cols) (cell .0 * cols + cell .1) (now (weights .entry)) ⌝ }
+    ensures { λ _. ⌜ after weights ≡ lowered (flat rows cols) (numberOf cols cell) (before weights) ⌝ }
 {
-    let from = across.0;
-    let to = across.1;
-    let bottom = down.1;
     let mut row = down.0;
-    while row < bottom {
-        lower_row(weights, cols, row, from, to, cell);
+    while row < down.1 {
+        let from = row * cols + across.0;
+        let to = row * cols + across.1;
+        lower_row(&mut weights[from..to], cell, row, across.0);
         row += 1;
     }
 }

@@ -1,9 +1,7 @@
 -- `steps::weights_refused` meets its contract: a chain of three checks. Assumes nothing.
-use mathlib.Core.Path.{_∙_, ap}
-use Prim.Native.Nat.{ℕ}
 use Rattle.base.proofs.Bools.{passes}
-use Rattle.rules.specs.Tests.{hasLength}
-use Rattle.base.proofs.Chain.{refuse, pass, no-check}
+use Rattle.base.proofs.Chain.{chain}
+use Rattle.checks.proofs.Lengths.{lengths}
 use borrow.Author.Needs.{needs}
 use Rattle.steps.proofs.weights_refused.Statement.{statement}
 use Rattle.steps.proofs.weights_refused.Tie as tie
@@ -12,7 +10,7 @@ board-sides-requires : tie.Need-board-sides-requires
 board-sides-requires c κs = search needs
 
 returns : tie.Need-returns
-returns c = refuse _ _ (c .before .board-sides .ensures) (c .if1 .taken)
+returns c = search (chain, lengths) depth 20 fits 5000
 
 cells-of-requires : tie.Need-cells-of-requires
 cells-of-requires c κs = passes _ (c .before .board-sides .ensures) (c .if1 .left)
@@ -21,23 +19,16 @@ words-have-length-requires : tie.Need-words-have-length-requires
 words-have-length-requires c κs = search needs
 
 returns-2 : tie.Need-returns-2
-returns-2 c =
-    pass _ _ _ (c .before .before .before .before .board-sides .ensures) (c .before .before .before .if1 .left) (refuse _ _ (c .before .words-have-length .ensures ∙ ap (λ (m : ℕ). hasLength (c .before .before .before .before .before .before .args .weights .now) m) (c .before .before .cells-of .ensures)) (c .if2 .taken))
+returns-2 c = search (chain, lengths) depth 20 fits 5000
 
 no-word-above-requires : tie.Need-no-word-above-requires
 no-word-above-requires c κs = search needs
 
 returns-3 : tie.Need-returns-3
-returns-3 c =
-    pass _ _ _ (c .before .before .before .before .before .before .board-sides .ensures) (c .before .before .before .before .before .if1 .left)
-    (pass _ _ _ (c .before .before .before .words-have-length .ensures ∙ ap (λ (m : ℕ). hasLength (c .before .before .before .before .before .before .before .before .args .weights .now) m) (c .before .before .before .before .cells-of .ensures)) (c .before .before .if2 .left)
-    (refuse _ _ (c .before .no-word-above .ensures) (c .if3 .taken)))
+returns-3 c = search (chain, lengths) depth 20 fits 5000
 
 returns-4 : tie.Need-returns-4
-returns-4 c =
-    pass _ _ _ (c .before .before .before .before .before .before .board-sides .ensures) (c .before .before .before .before .before .if1 .left)
-    (pass _ _ _ (c .before .before .before .words-have-length .ensures ∙ ap (λ (m : ℕ). hasLength (c .before .before .before .before .before .before .before .before .args .weights .now) m) (c .before .before .before .before .cells-of .ensures)) (c .before .before .if2 .left)
-    (pass _ _ _ (c .before .no-word-above .ensures) (c .if3 .left) no-check))
+returns-4 c = search (chain, lengths) depth 20 fits 5000
 
 pub weights-refused-spec : {M : Type 1} → statement M
 weights-refused-spec =

@@ -1,35 +1,31 @@
--- `weights::lower_row` meets its contract. The loop's invariant is `RowUpTo`: the cells passed are lowered, the rest of the row is as it
--- was.
--- Assumes nothing.
-use Prim.Native.Nat.{_-_, _*_, _≤_}
-use native.Mathlib.Omega.{arith}
-use Rattle.weights.specs.Shares.{loweredAt}
-use Rattle.weights.proofs.Shares.{share-cell}
-use Rattle.nearness.proofs.Rows.{RowUpTo, row-none, row-turn, row-done}
+-- `weights::lower_row` meets its contract: a sweep along the row. Assumes nothing.
+use Prim.Native.Nat.{ℕ, _+_, _-_}
+use mathlib.Core.Path.{_∙_, ap}
+use lib.ListN.{length, getD}
+use Rattle.base.proofs.Sweep.{Sweep}
+use Rattle.base.proofs.Regions.{entryThen, row-none, row-turn, row-done}
+use Rattle.weights.specs.Shares.{loweredBy}
 use borrow.Author.Needs.{needs}
 use Rattle.weights.proofs.lower_row.Statement.{statement}
 use Rattle.weights.proofs.lower_row.Tie as tie
 
 abbrev Inv-loop : tie.InvT-loop
-Inv-loop weights₀ cols row from to cell col₀ weights col = (col ≤ to) × RowUpTo (loweredAt cols cell) (row * cols) from weights₀ weights col
+Inv-loop part₀ cell row left j₀ part j = Sweep 0 (entryThen 0 (loweredBy cell) row left part₀) part₀ part j
 
 abbrev μ-loop : tie.MeasureT-loop
-μ-loop weights₀ cols row from to cell col₀ weights col = to - col
+μ-loop part₀ cell row left j₀ part j = length part₀ - j
 
 loop-holds : tie.Need-loop-holds Inv-loop μ-loop
-loop-holds c = (search needs, row-none _ _ _ _)
-
-mul-k : tie.Need-mul-k Inv-loop μ-loop
-mul-k c = record { fits = omega (arith, c .before .loop .inv .1 .long) }
-
-add-k : tie.Need-add-k Inv-loop μ-loop
-add-k c = record { fits = omega (arith, c .before .loop .inv .1 .long) }
+loop-holds c = let a = c .before .args in row-none 0 (loweredBy (a .cell)) (a .row) (a .left)
 
 mul-less : tie.Need-mul-less Inv-loop μ-loop
 mul-less c = search needs
 
 slice-read-less : tie.Need-slice-read-less Inv-loop μ-loop
-slice-read-less c = omega (arith, c .before .before .loop .inv .1 .long)
+slice-read-less c = search needs
+
+add-share-at : tie.Need-add-share-at Inv-loop μ-loop
+add-share-at c = search needs
 
 share-at-requires : tie.Need-share-at-requires Inv-loop μ-loop
 share-at-requires c κs = search needs
@@ -37,14 +33,14 @@ share-at-requires c κs = search needs
 less-requires : tie.Need-less-requires Inv-loop μ-loop
 less-requires c κs = search needs
 
-mul-weights : tie.Need-mul-weights Inv-loop μ-loop
-mul-weights c = search needs
+mul-part : tie.Need-mul-part Inv-loop μ-loop
+mul-part c = search needs
 
-slice-write-weights : tie.Need-slice-write-weights Inv-loop μ-loop
-slice-write-weights c = search needs
+slice-write-part : tie.Need-slice-write-part Inv-loop μ-loop
+slice-write-part c = search needs
 
-add-col : tie.Need-add-col Inv-loop μ-loop
-add-col c = search needs
+add-j : tie.Need-add-j Inv-loop μ-loop
+add-j c = search needs
 
 loop-less : tie.Need-loop-less Inv-loop μ-loop
 loop-less c = search needs
@@ -52,17 +48,15 @@ loop-less c = search needs
 loop-again : tie.Need-loop-again Inv-loop μ-loop
 loop-again c =
     let l = c .before .before .before .before .loop in
-    let a = c .before .before .before .before .before .before .args in (
-      omega arith,
-      row-turn _ _ _ _ _ _ _ (l .inv .1) (omega (arith, l .inv .1 .long))
-          (λ m e. omega (arith, e, c .less .ensures, c .before .share-at .ensures, share-cell (a .cols) (a .cell) (a .row) (l .col) (omega arith))),
-    )
+    let a = c .before .before .before .before .before .before .args in
+    row-turn 0 (loweredBy (a .cell)) (a .row) (a .left) (l .inv) (search needs)
+    (c .less .ensures ∙ ap (λ (n : ℕ). getD (l .part) (l .j) 0 - n) (c .before .share-at .ensures))
 
 same-length : tie.Need-same-length Inv-loop μ-loop
 same-length c = search needs
 
 returns : tie.Need-returns Inv-loop μ-loop
-returns c = row-done _ _ _ _ _ _ _ (c .before .loop .inv .1) (c .before .loop .inv .0) (c .loop-test .left)
+returns c = let a = c .before .before .before .args in row-done 0 (loweredBy (a .cell)) (a .row) (a .left) (c .before .loop .inv) (search needs)
 
 pub lower-row-spec : {M : Type 1} → statement M
 lower-row-spec =
@@ -71,15 +65,14 @@ lower-row-spec =
     Inv-loop
     μ-loop
     loop-holds
-    mul-k
-    add-k
     mul-less
     slice-read-less
+    add-share-at
     share-at-requires
     less-requires
-    mul-weights
-    slice-write-weights
-    add-col
+    mul-part
+    slice-write-part
+    add-j
     loop-less
     loop-again
     same-length

@@ -1,57 +1,52 @@
--- `weights::raise_row` meets its contract. The loop's invariant is `RowUpTo`: the cells passed are raised, the rest of the row is as it
--- was.
--- Assumes nothing.
-use Prim.Native.Nat.{ℕ, _+_, _-_, _*_, _<_, _≤_, max}
+-- `weights::raise_row` meets its contract: a sweep along the row. Assumes nothing.
+use Prim.Native.Nat.{ℕ, _+_, _-_}
+use mathlib.Core.Path.{ap}
 use native.Mathlib.Omega.{arith}
-use lib.ListN.{length}
-use Rattle.rules.specs.Grid.{gap}
-use Rattle.weights.specs.Shares.{raisedAt}
-use Rattle.weights.proofs.Shares.{share-le, share-cell}
-use Rattle.nearness.proofs.Rows.{RowUpTo, row-none, row-turn, row-done}
+use lib.ListN.{length, getD}
+use Rattle.base.proofs.Sweep.{Sweep, sweep-old}
+use Rattle.base.proofs.Regions.{entryThen, row-none, row-turn, row-done}
+use Rattle.rules.specs.Grid.{cellAt, distance}
+use Rattle.weights.specs.Shares.{raisedBy}
+use Rattle.rules.proofs.Shares.{share-le}
 use borrow.Author.Needs.{needs}
 use Rattle.weights.proofs.raise_row.Statement.{statement}
 use Rattle.weights.proofs.raise_row.Tie as tie
 
 abbrev Inv-loop : tie.InvT-loop
-Inv-loop weights₀ cols row from to cell col₀ weights col = (col ≤ to) × RowUpTo (raisedAt cols cell) (row * cols) from weights₀ weights col
+Inv-loop part₀ cell row left j₀ part j = Sweep 0 (entryThen 0 (raisedBy cell) row left part₀) part₀ part j
 
 abbrev μ-loop : tie.MeasureT-loop
-μ-loop weights₀ cols row from to cell col₀ weights col = to - col
+μ-loop part₀ cell row left j₀ part j = length part₀ - j
 
 loop-holds : tie.Need-loop-holds Inv-loop μ-loop
-loop-holds c = (search needs, row-none _ _ _ _)
+loop-holds c = let a = c .before .args in row-none 0 (raisedBy (a .cell)) (a .row) (a .left)
 
-mul-k : tie.Need-mul-k Inv-loop μ-loop
-mul-k c = record { fits = omega (arith, c .before .loop .inv .1 .long) }
+mul-part : tie.Need-mul-part Inv-loop μ-loop
+mul-part c = search needs
 
-add-k : tie.Need-add-k Inv-loop μ-loop
-add-k c = record { fits = omega (arith, c .before .loop .inv .1 .long) }
+slice-read-part : tie.Need-slice-read-part Inv-loop μ-loop
+slice-read-part c = search needs
 
-mul-weights : tie.Need-mul-weights Inv-loop μ-loop
-mul-weights c = search needs
-
-slice-read-weights : tie.Need-slice-read-weights Inv-loop μ-loop
-slice-read-weights c = omega (arith, c .before .before .loop .inv .1 .long)
+add-share-at : tie.Need-add-share-at Inv-loop μ-loop
+add-share-at c = search needs
 
 share-at-requires : tie.Need-share-at-requires Inv-loop μ-loop
 share-at-requires c κs = search needs
 
-add-weights : tie.Need-add-weights Inv-loop μ-loop
-add-weights c =
+add-part : tie.Need-add-part Inv-loop μ-loop
+add-part c = 
     let l = c .before .before .before .loop in
     let a = c .before .before .before .before .before .args in
-    let k : ℕ = a .row * a .cols + l .col in
-    let h : k < length (a .weights .now) = omega (arith, l .inv .1 .long) in
-    record { fits = omega (arith, c .share-at .ensures, share-le (max (gap (a .cell .0) (a .row)) (gap (a .cell .1) (l .col))), l .inv .1 .rest k (omega arith), c .before .before .before .before .before .pre .1 k (omega (arith, l .inv .1 .came)) h) }
+    record { fits = omega (arith, c .share-at .ensures, share-le (distance (a .cell) (cellAt (a .row) (a .left + l .j))), sweep-old (l .inv) (l .j) (omega arith) (search needs), c .before .before .before .before .before .pre .1 (l .j) (search needs)) }
 
-mul-weights-2 : tie.Need-mul-weights-2 Inv-loop μ-loop
-mul-weights-2 c = search needs
+mul-part-2 : tie.Need-mul-part-2 Inv-loop μ-loop
+mul-part-2 c = search needs
 
-slice-write-weights : tie.Need-slice-write-weights Inv-loop μ-loop
-slice-write-weights c = search needs
+slice-write-part : tie.Need-slice-write-part Inv-loop μ-loop
+slice-write-part c = search needs
 
-add-col : tie.Need-add-col Inv-loop μ-loop
-add-col c = search needs
+add-j : tie.Need-add-j Inv-loop μ-loop
+add-j c = search needs
 
 loop-less : tie.Need-loop-less Inv-loop μ-loop
 loop-less c = search needs
@@ -59,17 +54,14 @@ loop-less c = search needs
 loop-again : tie.Need-loop-again Inv-loop μ-loop
 loop-again c =
     let l = c .before .before .before .loop in
-    let a = c .before .before .before .before .before .args in (
-      omega arith,
-      row-turn _ _ _ _ _ _ _ (l .inv .1) (omega (arith, l .inv .1 .long))
-          (λ m e. omega (arith, e, c .share-at .ensures, share-cell (a .cols) (a .cell) (a .row) (l .col) (omega arith))),
-    )
+    let a = c .before .before .before .before .before .args in
+    row-turn 0 (raisedBy (a .cell)) (a .row) (a .left) (l .inv) (search needs) (ap (λ (n : ℕ). getD (l .part) (l .j) 0 + n) (c .share-at .ensures))
 
 same-length : tie.Need-same-length Inv-loop μ-loop
 same-length c = search needs
 
 returns : tie.Need-returns Inv-loop μ-loop
-returns c = row-done _ _ _ _ _ _ _ (c .before .loop .inv .1) (c .before .loop .inv .0) (c .loop-test .left)
+returns c = let a = c .before .before .before .args in row-done 0 (raisedBy (a .cell)) (a .row) (a .left) (c .before .loop .inv) (search needs)
 
 pub raise-row-spec : {M : Type 1} → statement M
 raise-row-spec =
@@ -78,15 +70,14 @@ raise-row-spec =
     Inv-loop
     μ-loop
     loop-holds
-    mul-k
-    add-k
-    mul-weights
-    slice-read-weights
+    mul-part
+    slice-read-part
+    add-share-at
     share-at-requires
-    add-weights
-    mul-weights-2
-    slice-write-weights
-    add-col
+    add-part
+    mul-part-2
+    slice-write-part
+    add-j
     loop-less
     loop-again
     same-length
