@@ -53,6 +53,9 @@ passes {r} b e t = sym e ∙ not-false r t
 pub not-is-true : (b : Bool) → b ≡ false → not b ≡ true
 not-is-true b e = rw e
 
+pub not-is-false : (b : Bool) → b ≡ true → not b ≡ false
+not-is-false b e = rw e
+
 -- a test and its equation
 pub by-test : {A : Type 0} (b : Bool) → (b ≡ true → A) → (b ≡ false → A) → A
 by-test true f g = f refl

@@ -2,15 +2,15 @@
 -- Assumes nothing.
 use Prim.Native.Nat.{ℕ, suc, _+_, _*_, _/_, _%_, _<_, _≤_}
 use mathlib.Core.Path.{_≡_}
-use mathlib.Core.Bool.{true}
+use mathlib.Core.Bool.{true, false}
 use native.Mathlib.Nat.{le-trans, mul-le-mul-right, mul-le-mul-left, div-lt-iff-lt-mul, mod-lt, div-add-mod', suc-mul}
 use native.Mathlib.Omega.{arith}
 use lib.Arith.{digits-lt, digits-div, digits-mod}
 use lib.Dec.{leb, ltb}
-use borrow.Author.Tests.{leb-true, le-leb, ltb-true, ltb-false}
+use borrow.Author.Tests.{leb-true, le-leb, lt-leb, ltb-true, ltb-false}
 use Rattle.base.specs.Counting.{within}
 use mathlib.Core.Logic.{_⊎_, inl, inr}
-use Rattle.base.proofs.Bools.{and-left, and-right, and-both, by-test}
+use Rattle.base.proofs.Bools.{and-left, and-right, and-both, and-no-left, and-no-right, by-test}
 
 -- the index law of a plane
 pub cell-lt : {r c rows cols : ℕ} → r < rows → c < cols → r * cols + c < rows * cols
@@ -40,7 +40,7 @@ rows-apart {a} {b} wide h = let up : suc a * wide ≤ b * wide = mul-le-mul-righ
 pub mul-le : {a b m n : ℕ} → a ≤ m → b ≤ n → a * b ≤ m * n
 mul-le {a} {b} {m} {n} p q = le-trans (mul-le-mul-right b p) (mul-le-mul-left m q)
 
--- lo ≤ n ≤ hi, both ways
+-- lo ≤ n ≤ hi, both ways, and where it fails
 pub within-low : (lo hi n : ℕ) → within lo hi n ≡ true → lo ≤ n
 unfolding within
 within-low lo hi n e = leb-true lo n (and-left (leb lo n) (leb n hi) e)
@@ -52,6 +52,14 @@ within-high lo hi n e = leb-true n hi (and-right (leb lo n) (leb n hi) e)
 pub within-is : (lo hi n : ℕ) → lo ≤ n → n ≤ hi → within lo hi n ≡ true
 unfolding within
 within-is lo hi n p q = and-both (leb lo n) (leb n hi) (le-leb lo n p) (le-leb n hi q)
+
+pub within-under : (lo hi n : ℕ) → n < lo → within lo hi n ≡ false
+unfolding within
+within-under lo hi n h = and-no-left (leb lo n) (leb n hi) (lt-leb lo n h)
+
+pub within-over : (lo hi n : ℕ) → hi < n → within lo hi n ≡ false
+unfolding within
+within-over lo hi n h = and-no-right (leb lo n) (leb n hi) (lt-leb n hi h)
 
 pub lt-or-le : (a b : ℕ) → (a < b) ⊎ (b ≤ a)
 lt-or-le a b = by-test (ltb a b) (λ e. inl (ltb-true a b e)) (λ e. inr (ltb-false a b e))

@@ -4,11 +4,11 @@ ghost use mathlib.Core.Path.{_≡_};
 ghost use Prim.Native.Nat.{_≤_, _<_};
 ghost use lib.ListN.{length};
 ghost use Rattle.base.specs.Tables.{tab};
-ghost use Rattle.base.specs.Refusal.{Gives, refusal};
+ghost use Rattle.base.specs.Refusal.{refusal};
 ghost use Rattle.rules.specs.Bounds.{maxCells, maxTiles};
-ghost use Rattle.rules.specs.Answers.{writtenAnswer};
-ghost use Rattle.rules.specs.Board.{freshChecks, afterFresh, layingChecks, liftingChecks};
-ghost use Rattle.planes.specs.Planes.{board, number, lengthsAlone, contentsAlone};
+ghost use Rattle.rules.specs.Grid.{numberOf};
+ghost use Rattle.rules.specs.Board.{boardLengths, boardContents, layingChecks, liftingChecks};
+ghost use Rattle.rules.specs.Promises.{before, after, boardBefore, boardAfter, Freshens};
 use checks::board_sides;
 use checks::cells_of;
 use checks::tile_number_fits;
@@ -26,7 +26,7 @@ pub fn lengths_refused(
     rows: usize,
     cols: usize,
 ) -> u8
-    ensures { λ r. ⌜ r ≡ refusal (lengthsAlone (now (pieces .entry)) (now (weights .entry)) (now (counts .entry)) rows cols) ⌝ }
+    ensures { λ r. ⌜ r ≡ refusal (boardLengths rows cols (boardBefore pieces weights counts)) ⌝ }
 {
     if !board_sides(rows, cols) {
         return rules::SHAPE;
@@ -54,7 +54,7 @@ pub fn contents_refused(
     n: usize,
 ) -> u8
     requires { ⌜ n ≤ maxTiles ⌝ }
-    ensures { λ r. ⌜ r ≡ refusal (contentsAlone (now (pieces .entry)) (now (weights .entry)) (now (counts .entry)) (now (tiles .entry)) count n) ⌝ }
+    ensures { λ r. ⌜ r ≡ refusal (boardContents (before tiles) count (boardBefore pieces weights counts) n) ⌝ }
 {
     let no = colours_refused(tiles, count, pieces);
     if no != 0 {
@@ -70,7 +70,7 @@ pub fn contents_refused(
 }
 
 fn fill(plane: &mut [u32], value: u32)
-    ensures { λ _. ⌜ now (plane .exit) ≡ tab (length (now (plane .entry))) (λ k. value) ⌝ }
+    ensures { λ _. ⌜ after plane ≡ tab (length (before plane)) (λ k. value) ⌝ }
 {
     let mut k = 0;
     while k < plane.len() {
@@ -88,7 +88,7 @@ pub fn fresh(
     cols: usize,
     tiles: usize,
 ) -> Written
-    ensures { λ a. ⌜ Gives (writtenAnswer (refusal (freshChecks rows cols tiles (board (now (pieces .entry)) (now (weights .entry)) (now (counts .entry)))))) (afterFresh rows cols tiles (board (now (pieces .entry)) (now (weights .entry)) (now (counts .entry)))) a (board (now (pieces .exit)) (now (weights .exit)) (now (counts .exit))) ⌝ }
+    ensures { λ a. ⌜ Freshens rows cols tiles (boardBefore pieces weights counts) a (boardAfter pieces weights counts) ⌝ }
 {
     let no = lengths_refused(pieces, weights, counts, rows, cols);
     if no != 0 {
@@ -105,8 +105,8 @@ pub fn fresh(
 
 // TYPE and TAKEN of a lay on a cell of the board, 0 where both pass.
 pub fn laying_refused(pieces: &[u32], cols: usize, cell: Cell, count: u32, colour: u32) -> u8
-    requires { ⌜ (number cols cell < length (now pieces)) × (length (now pieces) ≤ maxCells) ⌝ }
-    ensures { λ r. ⌜ r ≡ refusal (layingChecks (now (pieces .entry)) (number cols cell) count colour) ⌝ }
+    requires { ⌜ (numberOf cols cell < length (now pieces)) × (length (now pieces) ≤ maxCells) ⌝ }
+    ensures { λ r. ⌜ r ≡ refusal (layingChecks (before pieces) (numberOf cols cell) count colour) ⌝ }
 {
     if colour < 1 {
         return rules::TYPE;
@@ -123,8 +123,8 @@ pub fn laying_refused(pieces: &[u32], cols: usize, cell: Cell, count: u32, colou
 
 // BARE of a lift on a cell of the board, 0 where a piece stands there.
 pub fn lifting_refused(pieces: &[u32], cols: usize, cell: Cell) -> u8
-    requires { ⌜ (number cols cell < length (now pieces)) × (length (now pieces) ≤ maxCells) ⌝ }
-    ensures { λ r. ⌜ r ≡ refusal (liftingChecks (now (pieces .entry)) (number cols cell)) ⌝ }
+    requires { ⌜ (numberOf cols cell < length (now pieces)) × (length (now pieces) ≤ maxCells) ⌝ }
+    ensures { λ r. ⌜ r ≡ refusal (liftingChecks (before pieces) (numberOf cols cell)) ⌝ }
 {
     let k = cell.0 * cols + cell.1;
     if rules::BARE_PIECE < pieces[k] {

@@ -1,18 +1,16 @@
 // Document 01, "Weights, counts, scores": the recount of the regions near a cell whose piece changed.
 ghost use mathlib.Core.Path.{_≡_};
-ghost use mathlib.Core.List.{List};
-ghost use Prim.Native.Nat.{ℕ, _+_, _*_, _<_, _≤_};
+ghost use Prim.Native.Nat.{_+_, _<_, _≤_};
 ghost use lib.ListN.{length};
-ghost use Rattle.base.specs.Refusal.{Gives, refusal};
-ghost use Rattle.base.proofs.Swept.{swept};
+ghost use Rattle.base.specs.Refusal.{refusal};
+ghost use Rattle.base.specs.Regions.{overRow};
 ghost use Rattle.rules.specs.Bounds.{maxTiles};
 ghost use Rattle.rules.specs.Grid.{flat};
-ghost use Rattle.rules.specs.Answers.{writtenAnswer};
-ghost use Rattle.rules.specs.Board.{recounted, recountChecks, afterRecount};
+ghost use Rattle.rules.specs.Board.{countedContents, countedPlanes};
+ghost use Rattle.rules.specs.Promises.{before, after, panel, Recounts};
 ghost use Rattle.pattern.specs.Ready.{OnGrid};
 ghost use Rattle.windows.specs.Ready.{Countable};
-ghost use Rattle.nearness.specs.Near.{OnPlane, InRow, Nearby, Close, InReach};
-ghost use Rattle.recount.specs.Checks.{countAfter, recountedAt, countedAlone, planesAlone};
+ghost use Rattle.recount.specs.Recounted.{recountedBy, recountedIn, InSpans};
 use checks::board_sides;
 use checks::cells_of;
 use checks::tile_number;
@@ -20,8 +18,6 @@ use checks::words_have_length;
 use contents::colours_refused;
 use contents::no_word_above;
 use nearness::near_spans;
-use places::cell_of;
-use rules::Cell;
 use rules::Offset;
 use rules::Span;
 use rules::SpanAnswer;
@@ -30,8 +26,7 @@ use rules::World;
 use rules::Written;
 use windows::fit_count_at;
 
-// The count of the region that starts at (row, col) after a piece within distance 2 of it changed: counted anew where the region lies
-// inside the grid, else as it was.
+// The count of the region that starts at (row, col): counted anew where the region lies inside the grid, else as it was.
 fn count_after(
     pieces: &[u32],
     rows: usize,
@@ -42,7 +37,7 @@ fn count_after(
     old: u32,
 ) -> u32
     requires { ⌜ (Countable (now pieces) rows cols (now tiles)) × (OnGrid rows cols row col) ⌝ }
-    ensures { λ r. ⌜ ((cell : Cell) → Close cell row col → r ≡ countAfter (now (tiles .entry)) (now (pieces .entry)) rows cols cell row col old) ⌝ }
+    ensures { λ r. ⌜ r ≡ recountedBy (flat rows cols) cols (before tiles) (before pieces) row col old ⌝ }
 {
     if rows <= row + 2 {
         return old;
@@ -53,49 +48,52 @@ fn count_after(
     fit_count_at(pieces, rows, cols, tiles, row, col)
 }
 
-// One row of the span. Whatever cell it is near, and whatever plane the rows above were recounted in, this row is recounted there too.
+// The counts of a row from column `left` on.
 fn recount_row(
-    counts: &mut [u32],
+    part: &mut [u32],
     pieces: &[u32],
     rows: usize,
     cols: usize,
     tiles: &[u8],
     row: usize,
-    from: usize,
-    to: usize,
+    left: usize,
 )
-    requires { ⌜ (InRow (now counts) cols row from to) × (Countable (now pieces) rows cols (now tiles)) × (row < rows) ⌝ }
-    ensures { λ _. ⌜ ((cell : Cell) → InReach cell row from to → (l : List ℕ) → length l ≡ length (now (counts .entry)) → now (counts .entry) ≡ swept 0 (row * cols + from) (recountedAt (now (tiles .entry)) (now (pieces .entry)) rows cols cell l) l → now (counts .exit) ≡ swept 0 (row * cols + to) (recountedAt (now (tiles .entry)) (now (pieces .entry)) rows cols cell l) l) ⌝ }
+    requires { ⌜ (Countable (now pieces) rows cols (now tiles)) × (row < rows) × (left + length (now part) ≤ cols) ⌝ }
+    ensures { λ _. ⌜ after part ≡ overRow 0 (recountedBy (flat rows cols) cols (before tiles) (before pieces)) row left (before part) ⌝ }
 {
-    let mut col = from;
-    while col < to {
-        let k = row * cols + col;
-        counts[k] = count_after(pieces, rows, cols, tiles, row, col, counts[k]);
-        col += 1;
+    let mut j = 0;
+    while j < part.len() {
+        part[j] = count_after(pieces, rows, cols, tiles, row, left + j, part[j]);
+        j += 1;
     }
 }
 
-// Region starts within distance 2 whose region lies inside the grid get the number of fitting tiles; other counts stay. The spans say where
-// they are: `cell` is there for the promise.
+// Region starts in the spans whose region lies inside the grid get the number of fitting tiles; other counts stay.
 pub fn recount_near(
     counts: &mut [u32],
     pieces: &[u32],
     rows: usize,
     cols: usize,
     tiles: &[u8],
-    cell: Cell,
     down: Span,
     across: Span,
 )
-    requires { ⌜ (OnPlane (now counts) rows cols cell) × (Nearby rows cols cell down across) × (Countable (now pieces) rows cols (now tiles)) ⌝ }
-    ensures { λ _. ⌜ now (counts .exit) ≡ recounted (flat rows cols) (now (tiles .entry)) (now (pieces .entry)) (cell .0 * cols + cell .1) (now (counts .entry)) ⌝ }
+    requires { ⌜ (InSpans (now counts) rows cols down across) × (Countable (now pieces) rows cols (now tiles)) ⌝ }
+    ensures { λ _. ⌜ after counts ≡ recountedIn (flat rows cols) cols (before tiles) (before pieces) down across (before counts) ⌝ }
 {
-    let from = across.0;
-    let to = across.1;
-    let bottom = down.1;
     let mut row = down.0;
-    while row < bottom {
-        recount_row(counts, pieces, rows, cols, tiles, row, from, to);
+    while row < down.1 {
+        let from = row * cols + across.0;
+        let to = row * cols + across.1;
+        recount_row(
+            &mut counts[from..to],
+            pieces,
+            rows,
+            cols,
+            tiles,
+            row,
+            across.0,
+        );
         row += 1;
     }
 }
@@ -103,7 +101,7 @@ pub fn recount_near(
 // COUNT, and CELL of all that is read, 0 where all pass; n is the number of tiles.
 fn contents_refused(counts: &[u32], pieces: &[u32], tiles: &[u8], count: u32, n: usize) -> u8
     requires { ⌜ n ≤ maxTiles ⌝ }
-    ensures { λ r. ⌜ r ≡ refusal (countedAlone (now (counts .entry)) (now (pieces .entry)) (now (tiles .entry)) count n) ⌝ }
+    ensures { λ r. ⌜ r ≡ refusal (countedContents (before tiles) count (before pieces) (before counts) n) ⌝ }
 {
     let no = colours_refused(tiles, count, pieces);
     if no != 0 {
@@ -124,7 +122,7 @@ fn planes_refused(
     tiles: &[u8],
     count: u32,
 ) -> u8
-    ensures { λ r. ⌜ r ≡ refusal (planesAlone (now (counts .entry)) (now (pieces .entry)) rows cols (now (tiles .entry)) count) ⌝ }
+    ensures { λ r. ⌜ r ≡ refusal (countedPlanes (before counts) (before pieces) rows cols (before tiles) count) ⌝ }
 {
     if !board_sides(rows, cols) {
         return rules::SHAPE;
@@ -153,7 +151,7 @@ pub fn recount_feasibility(
     position: World,
     offset: Offset,
 ) -> Written
-    ensures { λ a. ⌜ Gives (writtenAnswer (refusal (recountChecks (now (counts .entry)) (now (pieces .entry)) rows cols (now (tiles .entry)) count position offset))) (afterRecount (now (counts .entry)) (now (pieces .entry)) rows cols (now (tiles .entry)) count position offset) a (now (counts .exit)) ⌝ }
+    ensures { λ a. ⌜ Recounts (panel rows cols (before tiles) offset) count position (before pieces) (before counts) a (after counts) ⌝ }
 {
     let no = planes_refused(counts, pieces, rows, cols, tiles, count);
     if no != 0 {
@@ -162,7 +160,6 @@ pub fn recount_feasibility(
     let SpanAnswer::Spans(down, across) = near_spans(rows, cols, position, offset) else {
         return Written::Refused(rules::PLACE);
     };
-    let cell = cell_of(position, offset);
-    recount_near(counts, pieces, rows, cols, tiles, cell, down, across);
+    recount_near(counts, pieces, rows, cols, tiles, down, across);
     Written::Done
 }

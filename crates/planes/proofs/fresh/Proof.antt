@@ -1,11 +1,14 @@
 -- `planes::fresh` meets its contract: refused by its lengths, by the number of tiles, or three planes filled. Assumes nothing.
-use mathlib.Core.Path.{sym}
+use mathlib.Core.Path.{_≡_}
 use native.Mathlib.Omega.{arith}
-use Rattle.base.proofs.Bools.{fails, passes}
-use Rattle.rules.proofs.Answered.{gives-refused, gives-done}
-use Rattle.rules.specs.Board.{afterFresh}
+use Rattle.base.specs.Refusal.{refusal}
+use Rattle.base.proofs.Bools.{passes}
+use Rattle.base.proofs.Chain.{chain}
+use Rattle.rules.specs.Board.{freshChecks}
+use Rattle.rules.specs.Promises.{board}
+use Rattle.rules.proofs.Answered.{answers, done}
 use Rattle.checks.proofs.Sides.{tiles-most}
-use Rattle.planes.proofs.Chains.{fresh-lengths, fresh-number, fresh-all, filled, not-none}
+use Rattle.planes.proofs.Filled.{filled}
 use borrow.Author.Needs.{needs}
 use Rattle.planes.proofs.fresh.Statement.{statement}
 use Rattle.planes.proofs.fresh.Tie as tie
@@ -23,8 +26,7 @@ same-length-3 : tie.Need-same-length-3
 same-length-3 c = search needs
 
 returns : tie.Need-returns
-unfolding afterFresh
-returns c = gives-refused _ _ _ _ (fresh-lengths _ _ _ _ _ _ _ (c .before .lengths-refused .ensures) (c .if1 .taken)) (c .if1 .taken)
+returns c = search (chain, answers) depth 20 fits 5000
 
 tile-number-fits-requires : tie.Need-tile-number-fits-requires
 tile-number-fits-requires c κs = search needs
@@ -39,8 +41,13 @@ same-length-6 : tie.Need-same-length-6
 same-length-6 c = search needs
 
 returns-2 : tie.Need-returns-2
-unfolding afterFresh
-returns-2 c = gives-refused _ _ _ _ (fresh-number _ _ _ _ _ _ _ (c .before .before .before .lengths-refused .ensures) (c .before .before .if1 .left) (fails _ (c .before .tile-number-fits .ensures) (c .if2 .taken))) (not-none _)
+returns-2 c = search (chain, answers) depth 20 fits 5000
+
+-- all checks have passed
+made : (c : tie.Else2)
+    → let a = c .before .before .before .before .before .before .before .before .before .before .args in
+    0 ≡ refusal (freshChecks (a .rows) (a .cols) (a .tiles) (board (a .pieces .now) (a .weights .now) (a .counts .now)))
+made c = search chain depth 20 fits 5000
 
 fill-requires : tie.Need-fill-requires
 fill-requires c κs = search needs
@@ -64,11 +71,10 @@ same-length-9 : tie.Need-same-length-9
 same-length-9 c = search needs
 
 returns-3 : tie.Need-returns-3
-unfolding afterFresh
 returns-3 c =
-    gives-done _ _ _ _
-    (sym (fresh-all _ _ _ _ _ _ _ (c .before .before .before .before .before .before .before .before .before .before .before .before .before .before .before .lengths-refused .ensures) (c .before .before .before .before .before .before .before .before .before .before .before .before .before .before .if1 .left) (passes _ (c .before .before .before .before .before .before .before .before .before .before .before .before .before .tile-number-fits .ensures) (c .before .before .before .before .before .before .before .before .before .before .before .before .if2 .left))))
-    (filled _ _ _ _ _ _ _ (c .before .before .before .before .before .before .before .before .before .before .before .before .before .before .before .lengths-refused .ensures) (c .before .before .before .before .before .before .before .before .before .before .before .before .before .before .if1 .left) _ _ _ (c .before .before .before .before .before .before .before .before .before .before .fill .ensures) (c .before .before .before .before .before .before .fill2 .ensures) (c .before .before .fill3 .ensures))
+    let m = made (c .before .before .before .before .before .before .before .before .before .before .before .before) in
+    done _ _ _ m
+    (filled _ _ _ _ _ _ m _ _ _ (c .before .before .before .before .before .before .before .before .before .before .fill .ensures) (c .before .before .before .before .before .before .fill2 .ensures) (c .before .before .fill3 .ensures))
 
 pub fresh-spec : {M : Type 1} → statement M
 fresh-spec =

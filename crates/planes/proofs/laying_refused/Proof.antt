@@ -1,15 +1,16 @@
 -- `planes::laying_refused` meets its contract, by its four ways out. Assumes nothing.
-use Rattle.planes.specs.Planes.{number}
-use Rattle.planes.proofs.Chains.{type-none, type-above, taken, free}
+use Rattle.base.proofs.Bools.{not-is-true, not-is-false}
+use Rattle.base.proofs.Numbers.{within-under, within-over, within-is}
+use Rattle.base.proofs.Chain.{chain}
 use borrow.Author.Needs.{needs}
 use Rattle.planes.proofs.laying_refused.Statement.{statement}
 use Rattle.planes.proofs.laying_refused.Tie as tie
 
 returns : tie.Need-returns
-returns c = let a = c .before .args in type-none (a .pieces .now) (number (a .cols) (a .cell)) _ _ (c .if1 .taken)
+returns c = search (chain, within-under) depth 20 fits 5000
 
 returns-2 : tie.Need-returns-2
-returns-2 c = let a = c .before .before .args in type-above (a .pieces .now) (number (a .cols) (a .cell)) _ _ (c .if2 .taken)
+returns-2 c = search (chain, within-over) depth 20 fits 5000
 
 mul-k : tie.Need-mul-k
 mul-k c = search needs
@@ -24,10 +25,10 @@ shared-slice-read-if3 : tie.Need-shared-slice-read-if3
 shared-slice-read-if3 c = search needs
 
 returns-3 : tie.Need-returns-3
-returns-3 c = let a = c .before .before .before .before .before .before .args in taken (a .pieces .now) (number (a .cols) (a .cell)) _ _ (c .before .before .before .before .before .if1 .left) (c .before .before .before .before .if2 .left) (c .if3 .taken)
+returns-3 c = search (chain, within-is, not-is-false) depth 20 fits 5000
 
 returns-4 : tie.Need-returns-4
-returns-4 c = let a = c .before .before .before .before .before .before .args in free (a .pieces .now) (number (a .cols) (a .cell)) _ _ (c .before .before .before .before .before .if1 .left) (c .before .before .before .before .if2 .left) (c .if3 .left)
+returns-4 c = search (chain, within-is, not-is-true) depth 20 fits 5000
 
 pub laying-refused-spec : {M : Type 1} → statement M
 laying-refused-spec =

@@ -1,6 +1,5 @@
 -- `planes::lifting_refused` meets its contract, by its two ways out. Assumes nothing.
-use Rattle.planes.specs.Planes.{number}
-use Rattle.planes.proofs.Chains.{stands, bare-there}
+use Rattle.base.proofs.Chain.{chain}
 use borrow.Author.Needs.{needs}
 use Rattle.planes.proofs.lifting_refused.Statement.{statement}
 use Rattle.planes.proofs.lifting_refused.Tie as tie
@@ -18,10 +17,10 @@ shared-slice-read-if1 : tie.Need-shared-slice-read-if1
 shared-slice-read-if1 c = search needs
 
 returns : tie.Need-returns
-returns c = let a = c .before .before .before .before .args in stands (a .pieces .now) (number (a .cols) (a .cell)) 0 0 (c .if1 .taken)
+returns c = search chain depth 20 fits 5000
 
 returns-2 : tie.Need-returns-2
-returns-2 c = let a = c .before .before .before .before .args in bare-there (a .pieces .now) (number (a .cols) (a .cell)) 0 0 (c .if1 .left)
+returns-2 c = search chain depth 20 fits 5000
 
 pub lifting-refused-spec : {M : Type 1} → statement M
 lifting-refused-spec =

@@ -1,6 +1,7 @@
 -- `recount::count_after` meets its contract, by its three ways out. Assumes nothing.
 use Rattle.recount.proofs.Recounts.{stays-low, stays-right, counted}
 use borrow.Author.Needs.{needs}
+use borrow.Author.Needs.{needs}
 use Rattle.recount.proofs.count_after.Statement.{statement}
 use Rattle.recount.proofs.count_after.Tie as tie
 
@@ -8,19 +9,19 @@ add-if1 : tie.Need-add-if1
 add-if1 c = search needs
 
 returns : tie.Need-returns
-returns c = λ cell near. stays-low _ _ _ _ cell _ _ _ near (c .if1 .taken)
+returns c = let s = c .before .before .before in stays-low _ _ _ _ _ _ _ (s .pre .1 .across) (c .if1 .taken)
 
 add-if2 : tie.Need-add-if2
 add-if2 c = search needs
 
 returns-2 : tie.Need-returns-2
-returns-2 c = λ cell near. stays-right _ _ _ _ cell _ _ _ near (c .before .if1 .left) (c .if2 .taken)
+returns-2 c = let s = c .before .before .before .before in stays-right _ _ _ _ _ _ _ (s .pre .1 .across) (c .if2 .taken)
 
 fit-count-at-requires : tie.Need-fit-count-at-requires
 fit-count-at-requires c κs = search needs
 
 returns-3 : tie.Need-returns-3
-returns-3 c = λ cell near. counted _ _ _ _ cell _ _ _ near _ (c .before .before .if1 .left) (c .before .if2 .left) (c .fit-count-at .ensures)
+returns-3 c = let s = c .before .before .before .before .before in counted _ _ _ _ _ _ _ (s .pre .1 .across) _ (c .before .before .if1 .left) (c .before .if2 .left) (c .fit-count-at .ensures)
 
 pub count-after-spec : {M : Type 1} → statement M
 count-after-spec =

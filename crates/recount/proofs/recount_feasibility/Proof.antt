@@ -1,14 +1,13 @@
 -- `recount::recount_feasibility` meets its contract: refused by its planes, refused by its place, or done. Assumes nothing.
-use Prim.Native.Nat.{_+_, _*_}
-use mathlib.Core.Path.{sym, _∙_, ap}
-use Rattle.rules.proofs.Answered.{gives-refused, gives-done}
-use Rattle.rules.specs.Grid.{flat, numberOf}
-use Rattle.rules.specs.Board.{recounted, afterRecount}
-use Rattle.rules.specs.declared.Cell.{Cell}
-use Rattle.places.proofs.Indices.{placed}
-use Rattle.nearness.proofs.Placing.{near-refused, near-passed, nearby}
-use Rattle.nearness.proofs.Leaning.{on-plane, six}
-use Rattle.recount.proofs.Leaning.{planed, planes-stopped, planes-went-on}
+use mathlib.Core.Path.{_≡_, _∙_}
+use Rattle.base.specs.Refusal.{refusal}
+use Rattle.base.proofs.Chain.{chain}
+use Rattle.rules.specs.Board.{recountChecks}
+use Rattle.rules.proofs.Answered.{answers, done}
+use Rattle.nearness.proofs.Placing.{placing, nearby}
+use Rattle.recount.proofs.Recounts.{in-spans, recounted-is}
+use Rattle.recount.proofs.Leaning.{Planed, planed}
+use borrow.Author.Needs.{needs}
 use borrow.Author.Needs.{needs}
 use Rattle.recount.proofs.recount_feasibility.Statement.{statement}
 use Rattle.recount.proofs.recount_feasibility.Tie as tie
@@ -20,8 +19,7 @@ same-length : tie.Need-same-length
 same-length c = search needs
 
 returns : tie.Need-returns
-unfolding afterRecount
-returns c = gives-refused _ _ _ _ (planes-stopped _ _ _ _ _ _ _ _ _ (c .before .planes-refused .ensures) (c .if1 .taken)) (c .if1 .taken)
+returns c = search (chain, answers) depth 20 fits 5000
 
 near-spans-requires : tie.Need-near-spans-requires
 near-spans-requires c κs = search needs
@@ -36,31 +34,28 @@ same-length-2 : tie.Need-same-length-2
 same-length-2 c = search needs
 
 returns-2 : tie.Need-returns-2
-unfolding afterRecount
-returns-2 c = gives-refused _ _ _ _ (planes-went-on _ _ _ _ _ _ _ _ _ _ (c .before .before .before .before .planes-refused .ensures) (c .before .before .before .if1 .left) (sym (near-refused _ _ _ _ _ _ (c .enum-told .given .1) (c .before .before .near-spans .ensures)))) six
+returns-2 c = search (chain, answers, placing) depth 20 fits 5000
 
-cell-of-requires : tie.Need-cell-of-requires
-cell-of-requires c κs = search needs
+-- all checks have passed, and what the recount leans on then
+made : (c : tie.After-known-told)
+    → let a = c .before .before .before .before .before .before .before .before .before .before .args in 0 ≡ refusal (recountChecks (a .counts .now) (a .pieces .now) (a .rows) (a .cols) (a .tiles .now) (a .count) (a .position) (a .offset))
+made c = search (chain, placing) depth 20 fits 5000
+
+leans : (c : tie.After-known-told)
+    → let a = c .before .before .before .before .before .before .before .before .before .before .args in Planed (a .counts .now) (a .pieces .now) (a .rows) (a .cols) (a .tiles .now) (a .position) (a .offset)
+leans c = planed _ _ _ _ _ _ _ _ (made c)
 
 recount-near-requires : tie.Need-recount-near-requires
 recount-near-requires c κs =
-    let a = c .before .before .before .before .before .before .before .before .before .before .before .before .args in
-    let v = planed (a .counts .now) (a .pieces .now) (a .rows) (a .cols) (a .tiles .now) (a .count) (sym (c .before .before .before .before .before .before .before .planes-refused .ensures) ∙ c .before .before .before .before .before .before .if1 .left) in
-    let p = placed (a .rows) (a .cols) (a .position) (a .offset) (near-passed _ _ _ _ _ _ _ (c .before .before .before .down .given .1) (c .before .before .before .before .before .near-spans .ensures)) in
-    rw (c .before .cell-of .ensures)
-    (on-plane _ _ _ _ _ (v .sides) (v .lengths) (p .boarded), nearby _ _ _ _ _ _ _ (c .before .before .before .down .given .1) (c .before .before .before .before .before .near-spans .ensures) (p .boarded), v .ready)
+    let k = c .before in (in-spans _ _ _ _ _ _ (leans k .on) (nearby _ _ _ _ _ _ _ (k .before .down .given .1) (k .before .before .before .near-spans .ensures)), leans k .ready)
 
 same-length-3 : tie.Need-same-length-3
 same-length-3 c = search needs
 
 returns-3 : tie.Need-returns-3
-unfolding afterRecount numberOf
-returns-3 c =
-    let a = c .before .before .before .before .before .before .before .before .before .before .before .before .before .before .before .args in
-    let e = near-passed _ _ _ _ _ _ _ (c .before .before .before .before .before .before .down .given .1) (c .before .before .before .before .before .before .before .before .near-spans .ensures) in
-    gives-done _ _ _ _
-    (sym (planes-went-on (a .counts .now) (a .pieces .now) (a .rows) (a .cols) (a .tiles .now) (a .count) (a .position) (a .offset) _ _ (c .before .before .before .before .before .before .before .before .before .before .planes-refused .ensures) (c .before .before .before .before .before .before .before .before .before .if1 .left) (sym e)))
-    (c .before .before .recount-near .ensures ∙ ap (λ (x : Cell). recounted (flat (a .rows) (a .cols)) (a .tiles .now) (a .pieces .now) (x .0 * a .cols + x .1) (a .counts .now)) (c .before .before .before .before .cell-of .ensures))
+returns-3 c = 
+    let k = c .before .before .before .before in
+    done _ _ _ (made k) (c .before .before .recount-near .ensures ∙ recounted-is _ _ _ _ _ _ (leans k .on) (nearby _ _ _ _ _ _ _ (k .before .down .given .1) (k .before .before .before .near-spans .ensures)) _ _)
 
 pub recount-feasibility-spec : {M : Type 1} → statement M
 recount-feasibility-spec =
@@ -74,7 +69,6 @@ recount-feasibility-spec =
     enum-told
     same-length-2
     returns-2
-    cell-of-requires
     recount-near-requires
     same-length-3
     returns-3)

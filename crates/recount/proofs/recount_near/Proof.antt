@@ -1,40 +1,73 @@
--- `recount::recount_near` meets its contract. The loop's invariant is `InNear`, for any cell with these spans: the rows passed are
--- recounted, the others are as they were.
--- Assumes nothing.
-use Prim.Native.Nat.{_+_, _-_}
-use mathlib.Core.Path.{_≡_, refl, _∙_}
-use native.Mathlib.Nat.{min-le-right}
+-- `recount::recount_near` meets its contract: a sweep over the rows of the spans. Assumes nothing.
+use Prim.Native.Nat.{_+_, _-_, _*_, _≤_}
+use mathlib.Core.Path.{refl}
 use native.Mathlib.Omega.{arith}
 use lib.ListN.{length}
-use Rattle.rules.specs.declared.Cell.{Cell}
-use Rattle.recount.specs.Checks.{recountedAt}
-use Rattle.nearness.specs.Near.{OnPlane, Nearby}
-use Rattle.nearness.proofs.Nearby.{InNear, near-start, near-in, near-reach, near-turn, near-end}
-use Rattle.recount.proofs.Recounts.{recounted-far, recounted-is}
+use Rattle.base.proofs.Sweep.{length-part}
+use Rattle.base.proofs.Regions.{RowsDone, region-start, row-room, region-row, region-done}
+use Rattle.rules.specs.Grid.{flat}
+use Rattle.recount.specs.Recounted.{recountedBy, recountedIn}
 use borrow.Author.Needs.{needs}
 use Rattle.recount.proofs.recount_near.Statement.{statement}
 use Rattle.recount.proofs.recount_near.Tie as tie
 
 abbrev Inv-loop : tie.InvT-loop
-Inv-loop counts₀ pieces rows cols tiles from to bottom row₀ counts row =
-    (length counts ≡ length counts₀)
-    × ((cell : Cell) → OnPlane counts₀ rows cols cell → Nearby rows cols cell (record { 0 = row₀; 1 = bottom }) (record { 0 = from; 1 = to })
-    → InNear (recountedAt tiles pieces rows cols cell) rows cols cell from to bottom counts₀ counts row)
+Inv-loop counts₀ pieces rows cols tiles down across row₀ counts row = 
+    RowsDone 0 (recountedBy (flat rows cols) cols tiles pieces) cols (down .0) (down .1) (across .0) (across .1) counts₀ counts row
 
 abbrev μ-loop : tie.MeasureT-loop
-μ-loop counts₀ pieces rows cols tiles from to bottom row₀ counts row = bottom - row
+μ-loop counts₀ pieces rows cols tiles down across row₀ counts row = down .1 - row
 
-loop-holds : tie.Need-loop-holds Inv-loop μ-loop
-loop-holds c =
-    let a = c .before .before .before .args in
-    (refl, λ cell on near. near-start _ _ _ _ _ (recounted-far (a .tiles .now) (a .pieces .now) (a .rows) (a .cols) cell) on _ _ near)
-
-recount-row-requires : tie.Need-recount-row-requires Inv-loop μ-loop
-recount-row-requires c κs =
+-- the row is in the plane
+room : (c : tie.Then1 Inv-loop μ-loop)
+    → let a = c .before .before .before .before .before .before .args in c .before .before .loop .row * a .cols + a .cols ≤ length (a .counts .now)
+room c =
     let s = c .before .before .before .before .before .before in
     let a = s .args in
-    let i = c .before .before .loop .inv .1 (a .cell) (s .pre .0) (s .pre .1) in
-    (near-in _ _ _ _ _ (recounted-far (a .tiles .now) (a .pieces .now) (a .rows) (a .cols) (a .cell)) (s .pre .0) _ _ _ _ _ i (c .before .loop-test .taken), s .pre .2, omega (arith, i .under, min-le-right (a .cell .0 + 3) (a .rows)))
+    let l = c .before .before .loop in
+    omega (arith, row-room 0 (recountedBy (flat (a .rows) (a .cols)) (a .cols) (a .tiles .now) (a .pieces .now)) _ _ _ _ _ _ (s .pre .0 .region) (l .inv) (c .if1 .taken), l .inv .long)
+
+loop-holds : tie.Need-loop-holds Inv-loop μ-loop
+loop-holds c = 
+    let s = c .before .before .before in let a = s .args in region-start 0 (recountedBy (flat (a .rows) (a .cols)) (a .cols) (a .tiles .now) (a .pieces .now)) _ _ _ _ _ _ (s .pre .0 .region)
+
+mul-from : tie.Need-mul-from Inv-loop μ-loop
+mul-from c = record { fits = omega (arith, room c, c .before .before .before .before .before .before .pre .0) }
+
+add-from : tie.Need-add-from Inv-loop μ-loop
+add-from c = record { fits = omega (arith, room (c .before), c .before .before .before .before .before .before .before .pre .0, c .before .before .before .before .before .before .before .pre .0 .region) }
+
+mul-to : tie.Need-mul-to Inv-loop μ-loop
+mul-to c = record { fits = omega (arith, room (c .before), c .before .before .before .before .before .before .before .pre .0) }
+
+add-to : tie.Need-add-to Inv-loop μ-loop
+add-to c = record { fits = omega (arith, room (c .before .before), c .before .before .before .before .before .before .before .before .pre .0, c .before .before .before .before .before .before .before .before .pre .0 .region) }
+
+mul-recount-row : tie.Need-mul-recount-row Inv-loop μ-loop
+mul-recount-row c = search needs
+
+sub-recount-row : tie.Need-sub-recount-row Inv-loop μ-loop
+sub-recount-row c = search needs
+
+part-recount-row-start : tie.Need-part-recount-row-start Inv-loop μ-loop
+part-recount-row-start c = search needs
+
+part-recount-row-end : tie.Need-part-recount-row-end Inv-loop μ-loop
+part-recount-row-end c = omega (arith, room (c .before .before), c .before .before .before .before .loop .inv .long, c .before .before .before .before .before .before .before .before .pre .0 .region)
+
+recount-row-requires : tie.Need-recount-row-requires Inv-loop μ-loop
+recount-row-requires c κs = 
+    let t = c .before .before .before in
+    let l = t .before .before .loop in
+    let s = t .before .before .before .before .before .before in
+    let a = s .args in
+    let g = s .pre .0 .region in
+    let from = l .row * a .cols + a .across .0 in
+    let to = l .row * a .cols + a .across .1 in (
+      s .pre .1,
+      omega (arith, t .if1 .taken, s .pre .0 .bottom),
+      omega (arith, length-part (l .counts) from to (omega (arith, room t, g, l .inv .long)), g),
+    )
 
 add-row : tie.Need-add-row Inv-loop μ-loop
 add-row c = search needs
@@ -43,27 +76,24 @@ loop-less : tie.Need-loop-less Inv-loop μ-loop
 loop-less c = search needs
 
 loop-again : tie.Need-loop-again Inv-loop μ-loop
-loop-again c =
-    let a = c .before .before .before .before .before .before .before .before .before .args in
-    let l = c .before .before .before .before .before .loop in
-    let lt = c .before .before .before .before .loop-test .taken in
-    let r = c .before .before .recount-row in (
-      r .kept .0 ∙ l .inv .0,
-      λ cell on near.
-          let f = recounted-far (a .tiles .now) (a .pieces .now) (a .rows) (a .cols) cell in
-          let i = l .inv .1 cell on near in
-          near-turn _ _ _ _ _ f on _ _ _ _ _ i lt _ (r .kept .0) (r .ensures cell (near-reach _ _ _ _ _ f on _ _ _ _ _ i lt)),
-    )
+loop-again c = 
+    let k = c .before .before in
+    let t = k .before .before .before .before in
+    let l = t .before .before .loop in
+    let s = t .before .before .before .before .before .before in
+    let a = s .args in
+    region-row 0 (recountedBy (flat (a .rows) (a .cols)) (a .cols) (a .tiles .now) (a .pieces .now)) _ _ _ _ _ _ (s .pre .0 .region) (l .inv) (l .row * a .cols + a .across .0) (l .row * a .cols + a .across .1) refl refl (t .if1 .taken)
+    (k .recount-row .ensures)
 
 same-length : tie.Need-same-length Inv-loop μ-loop
-same-length c = c .before .loop .inv .0
+same-length c = c .before .before .loop .inv .long
 
 returns : tie.Need-returns Inv-loop μ-loop
-returns c =
-    let s = c .before .before .before .before .before in
+unfolding recountedIn
+returns c = 
+    let s = c .before .before .before .before .before .before in
     let a = s .args in
-    let i = c .before .loop .inv .1 (a .cell) (s .pre .0) (s .pre .1) in
-    near-end _ _ _ _ _ (recounted-far (a .tiles .now) (a .pieces .now) (a .rows) (a .cols) (a .cell)) (s .pre .0) _ _ _ _ _ i (c .loop-test .left) ∙ recounted-is _ _ _ (s .pre .0 .across) _ _ _
+    region-done 0 (recountedBy (flat (a .rows) (a .cols)) (a .cols) (a .tiles .now) (a .pieces .now)) _ _ _ _ _ _ (s .pre .0 .region) (c .before .before .loop .inv) (c .if1 .left)
 
 pub recount-near-spec : {M : Type 1} → statement M
 recount-near-spec =
@@ -72,6 +102,14 @@ recount-near-spec =
     Inv-loop
     μ-loop
     loop-holds
+    mul-from
+    add-from
+    mul-to
+    add-to
+    mul-recount-row
+    sub-recount-row
+    part-recount-row-start
+    part-recount-row-end
     recount-row-requires
     add-row
     loop-less
