@@ -1,8 +1,6 @@
 // Lay and lift on a board, three lent planes, pieces, weights and counts. A refused call changes none of them. Places are wall
 // coordinates; the offset leads to the cell.
-ghost use Rattle.base.specs.Refusal.{Gives};
-ghost use Rattle.rules.specs.Board.{laying, afterLay, lifting, afterLift};
-ghost use Rattle.planes.specs.Planes.{board, job};
+ghost use Rattle.rules.specs.Promises.{before, boardBefore, boardAfter, panel, Lays, Lifts};
 use checks::tile_number;
 use moves::lay_at;
 use moves::lift_at;
@@ -32,7 +30,7 @@ pub fn lay(
     offset: Offset,
     colour: u32,
 ) -> LayAnswer
-    ensures { λ a. ⌜ Gives (laying (job rows cols count (now (tiles .entry)) offset) (board (now (pieces .entry)) (now (weights .entry)) (now (counts .entry))) position colour) (afterLay (job rows cols count (now (tiles .entry)) offset) (board (now (pieces .entry)) (now (weights .entry)) (now (counts .entry))) position colour) a (board (now (pieces .exit)) (now (weights .exit)) (now (counts .exit))) ⌝ }
+    ensures { λ a. ⌜ Lays (panel rows cols (before tiles) offset) count position colour (boardBefore pieces weights counts) a (boardAfter pieces weights counts) ⌝ }
 {
     let no = lengths_refused(pieces, weights, counts, rows, cols);
     if no != 0 {
@@ -80,7 +78,7 @@ pub fn lift(
     position: World,
     offset: Offset,
 ) -> LiftAnswer
-    ensures { λ a. ⌜ Gives (lifting (job rows cols count (now (tiles .entry)) offset) (board (now (pieces .entry)) (now (weights .entry)) (now (counts .entry))) position) (afterLift (job rows cols count (now (tiles .entry)) offset) (board (now (pieces .entry)) (now (weights .entry)) (now (counts .entry))) position) a (board (now (pieces .exit)) (now (weights .exit)) (now (counts .exit))) ⌝ }
+    ensures { λ a. ⌜ Lifts (panel rows cols (before tiles) offset) count position (boardBefore pieces weights counts) a (boardAfter pieces weights counts) ⌝ }
 {
     let no = lengths_refused(pieces, weights, counts, rows, cols);
     if no != 0 {

@@ -6,7 +6,7 @@ use Rattle.rules.specs.declared.Cell.{Cell}
 use Rattle.rules.specs.declared.Span.{Span}
 use Rattle.windows.specs.Ready.{Countable}
 use Rattle.nearness.specs.Near.{OnPlane, Nearby}
-use Rattle.weights.specs.Shares.{lightFrom}
+use Rattle.weights.specs.Shares.{Light}
 
 -- a board whose planes were checked, and the spans of radius 2 round a cell of it
 pub record Standing (b : Board) (rows cols : ℕ) (tiles : List ℕ) (cell : Cell) (down across : Span) : Type 0 where
@@ -15,4 +15,4 @@ pub record Standing (b : Board) (rows cols : ℕ) (tiles : List ℕ) (cell : Cel
   pub counts : OnPlane (b .counts) rows cols cell
   pub near : Nearby rows cols cell down across
   pub ready : Countable (b .pieces) rows cols tiles
-  pub light : lightFrom 0 (b .weights)
+  pub light : Light (b .weights)

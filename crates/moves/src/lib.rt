@@ -2,9 +2,9 @@
 ghost use mathlib.Core.Path.{_≡_};
 ghost use Prim.Native.Nat.{_≤_};
 ghost use Rattle.rules.specs.Bounds.{maxColours};
-ghost use Rattle.rules.specs.Grid.{flat};
+ghost use Rattle.rules.specs.Grid.{numberOf, flat};
 ghost use Rattle.rules.specs.Board.{laid, lifted};
-ghost use Rattle.planes.specs.Planes.{board, number};
+ghost use Rattle.rules.specs.Promises.{before, board, boardBefore, boardAfter};
 ghost use Rattle.moves.specs.Standing.{Standing};
 use recount::recount_near;
 use rules::Cell;
@@ -25,12 +25,12 @@ pub fn lay_at(
     colour: u32,
 )
     requires { ⌜ (Standing (board (now pieces) (now weights) (now counts)) rows cols (now tiles) cell down across) × (colour ≤ maxColours) ⌝ }
-    ensures { λ _. ⌜ board (now (pieces .exit)) (now (weights .exit)) (now (counts .exit)) ≡ laid (flat rows cols) (now (tiles .entry)) (board (now (pieces .entry)) (now (weights .entry)) (now (counts .entry))) (number cols cell) colour ⌝ }
+    ensures { λ _. ⌜ boardAfter pieces weights counts ≡ laid (flat rows cols) (before tiles) (boardBefore pieces weights counts) (numberOf cols cell) colour ⌝ }
 {
     let k = cell.0 * cols + cell.1;
     pieces[k] = colour + 1;
     raise_near(weights, rows, cols, cell, down, across);
-    recount_near(counts, pieces, rows, cols, tiles, cell, down, across);
+    recount_near(counts, pieces, rows, cols, tiles, down, across);
 }
 
 pub fn lift_at(
@@ -45,10 +45,10 @@ pub fn lift_at(
     across: Span,
 )
     requires { ⌜ Standing (board (now pieces) (now weights) (now counts)) rows cols (now tiles) cell down across ⌝ }
-    ensures { λ _. ⌜ board (now (pieces .exit)) (now (weights .exit)) (now (counts .exit)) ≡ lifted (flat rows cols) (now (tiles .entry)) (board (now (pieces .entry)) (now (weights .entry)) (now (counts .entry))) (number cols cell) ⌝ }
+    ensures { λ _. ⌜ boardAfter pieces weights counts ≡ lifted (flat rows cols) (before tiles) (boardBefore pieces weights counts) (numberOf cols cell) ⌝ }
 {
     let k = cell.0 * cols + cell.1;
     pieces[k] = rules::BARE_PIECE;
     lower_near(weights, rows, cols, cell, down, across);
-    recount_near(counts, pieces, rows, cols, tiles, cell, down, across);
+    recount_near(counts, pieces, rows, cols, tiles, down, across);
 }

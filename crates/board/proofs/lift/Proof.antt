@@ -1,18 +1,17 @@
 -- `board::lift` meets its contract: refused by its lengths, its tiles, its contents, its place or at last, or done. Assumes nothing.
-use mathlib.Core.Path.{refl, sym, _∙_, ap}
+use mathlib.Core.Path.{_≡_, refl, sym, _∙_, ap}
 use Rattle.base.specs.Refusal.{refusal}
-use Rattle.base.proofs.Answered.{was-refused, was-done}
-use Rattle.rules.specs.Answers.{liftAnswer}
-use Rattle.rules.specs.Grid.{flat, numberOf}
-use Rattle.rules.specs.Board.{lifted, liftingChecks, afterLift}
+use Rattle.base.proofs.Chain.{chain, is-refusing, stop, go}
+use Rattle.rules.specs.Grid.{numberOf, flat}
+use Rattle.rules.specs.Board.{lifted, boardChecks, liftingChecks, afterLift}
+use Rattle.rules.specs.Promises.{board, panel}
 use Rattle.rules.specs.declared.Cell.{Cell}
-use Rattle.rules.specs.declared.LiftAnswer.the-variants as LiftAnswer·
-use Rattle.checks.proofs.Tiled.{not-whole, few-tiles}
-use Rattle.nearness.proofs.Placing.{near-refused}
-use Rattle.planes.specs.Planes.{board, number}
-use Rattle.planes.proofs.Chains.{not-none}
-use Rattle.moves.proofs.Plane.{in-plane}
-use Rattle.board.proofs.Chains.{Passed, have-passed, by-lengths, by-tiles, by-contents, by-place, by-last, standing}
+use Rattle.rules.proofs.Answered.{answers, lift-refused, lift-done}
+use Rattle.checks.proofs.Lengths.{lengths}
+use Rattle.checks.proofs.Tiled.{few-tiles}
+use Rattle.nearness.proofs.Placing.{place-stops, place-passes}
+use Rattle.nearness.proofs.Leaning.{in-plane}
+use Rattle.board.proofs.Leaning.{contents-by, standing}
 use borrow.Author.Needs.{needs}
 use Rattle.board.proofs.lift.Statement.{statement}
 use Rattle.board.proofs.lift.Tie as tie
@@ -30,8 +29,8 @@ same-length-3 : tie.Need-same-length-3
 same-length-3 c = search needs
 
 returns : tie.Need-returns
-unfolding afterLift numberOf
-returns c = was-refused liftAnswer LiftAnswer·.Refused (λ n. refl) _ _ _ _ (by-lengths _ _ _ _ _ _ _ _ _ _ _ (c .before .lengths-refused .ensures) (c .if1 .taken)) (c .if1 .taken)
+unfolding afterLift
+returns c = search (chain, answers) depth 20 fits 5000
 
 tile-number-requires : tie.Need-tile-number-requires
 tile-number-requires c κs = search needs
@@ -52,8 +51,8 @@ same-length-6 : tie.Need-same-length-6
 same-length-6 c = search needs
 
 returns-2 : tie.Need-returns-2
-unfolding afterLift numberOf
-returns-2 c = was-refused liftAnswer LiftAnswer·.Refused (λ n. refl) _ _ _ _ (by-tiles _ _ _ _ _ _ _ _ _ _ _ (c .before .before .before .before .lengths-refused .ensures) (c .before .before .before .if1 .left) (not-whole _ _ (c .before .before .tile-number .ensures) _ (c .enum-told .given .1))) (not-none _)
+unfolding afterLift
+returns-2 c = search (chain, answers, lengths) depth 20 fits 5000
 
 contents-refused-requires : tie.Need-contents-refused-requires
 contents-refused-requires c κs = few-tiles _ _ (c .before .before .before .before .before .before .tile-number .ensures) _ (c .before .before .before .before .n .given .1)
@@ -68,22 +67,14 @@ same-length-9 : tie.Need-same-length-9
 same-length-9 c = search needs
 
 returns-3 : tie.Need-returns-3
-unfolding afterLift numberOf
-returns-3 c =
-    was-refused liftAnswer LiftAnswer·.Refused (λ n. refl) _ _ _ _
-    (by-contents _ _ _ _ _ _ _ _ _ _ _ (c .before .before .before .before .before .before .before .before .before .before .lengths-refused .ensures) (c .before .before .before .before .before .before .before .before .before .if1 .left) _ _ (c .before .before .before .before .before .before .before .before .tile-number .ensures) (c .before .before .before .before .before .before .n .given .1) _
-    (c .before .contents-refused .ensures)
-    (c .if2 .taken))
-    (c .if2 .taken)
+unfolding afterLift
+returns-3 c = search (chain, answers, lengths, contents-by) depth 20 fits 5000
 
--- once the checks of the planes have passed
+-- the checks of the planes have passed
 made : (c : tie.Else2)
     → let a = c .before .before .before .before .before .before .before .before .before .before .before .before .before .before .before .before .before .before .args in
-    Passed (a .pieces .now) (a .weights .now) (a .counts .now) (a .rows) (a .cols) (a .tiles .now) (a .count)
-made c =
-    have-passed _ _ _ _ _ _ _ _ (c .before .before .before .before .before .before .before .before .before .before .lengths-refused .ensures) (c .before .before .before .before .before .before .before .before .before .if1 .left) _ _ (c .before .before .before .before .before .before .before .before .tile-number .ensures) (c .before .before .before .before .before .before .n .given .1) _
-    (c .before .contents-refused .ensures)
-    (c .if2 .left)
+    0 ≡ refusal (boardChecks (panel (a .rows) (a .cols) (a .tiles .now) (a .offset)) (a .count) (board (a .pieces .now) (a .weights .now) (a .counts .now)))
+made c = search (chain, lengths, contents-by) depth 20 fits 5000
 
 near-spans-requires : tie.Need-near-spans-requires
 near-spans-requires c κs = search needs
@@ -104,17 +95,14 @@ same-length-12 : tie.Need-same-length-12
 same-length-12 c = search needs
 
 returns-4 : tie.Need-returns-4
-unfolding afterLift numberOf
-returns-4 c =
-    was-refused liftAnswer LiftAnswer·.Refused (λ n. refl) _ _ _ _
-    (by-place _ _ _ _ _ _ _ _ _ (made (c .before .before .before)) _ (near-refused _ _ _ _ _ _ (c .enum-told2 .given .1) (c .before .before .near-spans .ensures)))
-    (not-none _)
+unfolding afterLift
+returns-4 c = lift-refused _ _ _ _ refl (go _ _ _ (made (c .before .before .before)) (stop _ _ _ refl (place-stops _ _ _ _ _ _ (c .enum-told2 .given .1) (c .before .before .near-spans .ensures))))
 
 cell-of-requires : tie.Need-cell-of-requires
 cell-of-requires c κs = search needs
 
 lifting-refused-requires : tie.Need-lifting-refused-requires
-lifting-refused-requires c κs = in-plane _ _ _ _ (standing _ _ _ _ _ _ _ _ _ (made (c .before .before .before .before .before .before)) _ _ _ (c .before .before .before .down .given .1) (c .before .before .before .before .before .near-spans .ensures) _ (c .before .cell-of .ensures) .pieces)
+lifting-refused-requires c κs = in-plane _ _ _ _ (standing _ _ _ _ _ _ _ _ (made (c .before .before .before .before .before .before)) _ _ _ _ (c .before .before .before .down .given .1) (c .before .before .before .before .before .near-spans .ensures) _ (c .before .cell-of .ensures) .pieces)
 
 same-length-13 : tie.Need-same-length-13
 same-length-13 c = search needs
@@ -126,17 +114,16 @@ same-length-15 : tie.Need-same-length-15
 same-length-15 c = search needs
 
 returns-5 : tie.Need-returns-5
-unfolding afterLift numberOf
+unfolding afterLift
 returns-5 c =
     let a = c .before .before .before .before .before .before .before .before .before .before .before .before .before .before .before .before .before .before .before .before .before .before .before .before .before .before .args in
-    was-refused liftAnswer LiftAnswer·.Refused (λ n. refl) _ _ _ _
-    (by-last _ _ _ _ _ _ _ _ _ (made (c .before .before .before .before .before .before .before .before)) _ _ _ (c .before .before .before .before .before .down .given .1) (c .before .before .before .before .before .before .before .near-spans .ensures) _ _
-    (c .before .lifting-refused .ensures
-    ∙ ap (λ (x : Cell). refusal (liftingChecks (a .pieces .now) (number (a .cols) x))) (c .before .before .before .cell-of .ensures)))
-    (c .if3 .taken)
+    lift-refused _ _ _ _ (is-refusing _ (c .if3 .taken))
+    (go _ _ _ (made (c .before .before .before .before .before .before .before .before))
+    (go _ _ _ (place-passes _ _ _ _ _ _ _ (c .before .before .before .before .before .down .given .1) (c .before .before .before .before .before .before .before .near-spans .ensures))
+    (c .before .lifting-refused .ensures ∙ ap (λ (x : Cell). refusal (liftingChecks (a .pieces .now) (numberOf (a .cols) x))) (c .before .before .before .cell-of .ensures))))
 
 lift-at-requires : tie.Need-lift-at-requires
-lift-at-requires c κs = standing _ _ _ _ _ _ _ _ _ (made (c .before .before .before .before .before .before .before .before .before .before .before)) _ _ _ (c .before .before .before .before .before .before .before .before .down .given .1) (c .before .before .before .before .before .before .before .before .before .before .near-spans .ensures) _ (c .before .before .before .before .before .before .cell-of .ensures)
+lift-at-requires c κs = standing _ _ _ _ _ _ _ _ (made (c .before .before .before .before .before .before .before .before .before .before .before)) _ _ _ _ (c .before .before .before .before .before .before .before .before .down .given .1) (c .before .before .before .before .before .before .before .before .before .before .near-spans .ensures) _ (c .before .before .before .before .before .before .cell-of .ensures)
 
 same-length-16 : tie.Need-same-length-16
 same-length-16 c = search needs
@@ -148,16 +135,15 @@ same-length-18 : tie.Need-same-length-18
 same-length-18 c = search needs
 
 returns-6 : tie.Need-returns-6
-unfolding afterLift numberOf
+unfolding afterLift
 returns-6 c =
     let a = c .before .before .before .before .before .before .before .before .before .before .before .before .before .before .before .before .before .before .before .before .before .before .before .before .before .before .before .before .before .before .before .before .before .before .before .before .args in
-    let e = c .before .before .before .before .before .before .before .before .before .before .before .before .before .cell-of .ensures in
-    was-done liftAnswer LiftAnswer·.Refused (λ n. refl) _ _ _ _ _ refl
-    (sym
-    (by-last _ _ _ _ _ _ _ _ _ (made (c .before .before .before .before .before .before .before .before .before .before .before .before .before .before .before .before .before .before)) _ _ _ (c .before .before .before .before .before .before .before .before .before .before .before .before .before .before .before .down .given .1) (c .before .before .before .before .before .before .before .before .before .before .before .before .before .before .before .before .before .near-spans .ensures) _ _
-    (c .before .before .before .before .before .before .before .before .before .before .before .lifting-refused .ensures ∙ ap (λ (x : Cell). refusal (liftingChecks (a .pieces .now) (number (a .cols) x))) e))
-    ∙ c .before .before .before .before .before .before .before .before .before .before .if3 .left)
-    (c .before .before .before .before .before .before .lift-at .ensures ∙ ap (λ (x : Cell). lifted (flat (a .rows) (a .cols)) (a .tiles .now) (board (a .pieces .now) (a .weights .now) (a .counts .now)) (number (a .cols) x)) e)
+    lift-done _ _ _
+    (go _ _ _ (made (c .before .before .before .before .before .before .before .before .before .before .before .before .before .before .before .before .before .before))
+    (go _ _ _ (place-passes _ _ _ _ _ _ _ (c .before .before .before .before .before .before .before .before .before .before .before .before .before .before .before .down .given .1) (c .before .before .before .before .before .before .before .before .before .before .before .before .before .before .before .before .before .near-spans .ensures))
+    (sym (c .before .before .before .before .before .before .before .before .before .before .if3 .left) ∙ (c .before .before .before .before .before .before .before .before .before .before .before .lifting-refused .ensures ∙ ap (λ (x : Cell). refusal (liftingChecks (a .pieces .now) (numberOf (a .cols) x))) (c .before .before .before .before .before .before .before .before .before .before .before .before .before .cell-of .ensures)))))
+    (c .before .before .before .before .before .before .lift-at .ensures
+    ∙ ap (λ (x : Cell). lifted (flat (a .rows) (a .cols)) (a .tiles .now) (board (a .pieces .now) (a .weights .now) (a .counts .now)) (numberOf (a .cols) x)) (c .before .before .before .before .before .before .before .before .before .before .before .before .before .cell-of .ensures))
 
 pub lift-spec : {M : Type 1} → statement M
 lift-spec =

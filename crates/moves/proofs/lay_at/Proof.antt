@@ -1,8 +1,10 @@
 -- `moves::lay_at` meets its contract: its three steps, joined. Assumes nothing.
+use mathlib.Core.Path.{_∙_}
 use native.Mathlib.Omega.{arith}
 use Rattle.rules.specs.Board.{laid}
 use Rattle.windows.proofs.Accepted.{set-countable}
-use Rattle.moves.proofs.Plane.{in-plane}
+use Rattle.nearness.proofs.Leaning.{in-plane}
+use Rattle.recount.proofs.Recounts.{in-spans, recounted-is}
 use borrow.Author.Needs.{needs}
 use Rattle.moves.proofs.lay_at.Statement.{statement}
 use Rattle.moves.proofs.lay_at.Tie as tie
@@ -26,7 +28,9 @@ raise-near-requires : tie.Need-raise-near-requires
 raise-near-requires c κs = search needs
 
 recount-near-requires : tie.Need-recount-near-requires
-recount-near-requires c κs = (c .before .before .before .before .before .before .before .before .before .before .before .before .pre .0 .counts, c .before .before .before .before .before .before .before .before .before .before .before .before .pre .0 .near, set-countable _ _ _ _ _ (omega arith) (omega (arith, c .before .before .before .before .before .before .before .before .before .before .before .before .pre)) _ (c .before .before .before .before .before .before .before .before .before .before .before .before .pre .0 .ready))
+recount-near-requires c κs =
+    let p = c .before .before .before .before .before .before .before .before .before .before .before .before .pre .0 in
+    (in-spans _ _ _ _ _ _ (p .counts) (p .near), set-countable _ _ _ _ _ (omega arith) (omega (arith, c .before .before .before .before .before .before .before .before .before .before .before .before .pre)) _ (p .ready))
 
 same-length : tie.Need-same-length
 same-length c = search needs
@@ -39,7 +43,9 @@ same-length-3 c = search needs
 
 returns : tie.Need-returns
 unfolding laid
-returns c = rw (c .before .before .before .before .before .before .before .raise-near .ensures, c .before .before .recount-near .ensures)
+returns c =
+    let p = c .before .before .before .before .before .before .before .before .before .before .before .before .before .before .before .pre .0 in
+    rw (c .before .before .before .before .before .before .before .raise-near .ensures, c .before .before .recount-near .ensures ∙ recounted-is _ _ _ _ _ _ (p .counts) (p .near) _ _)
 
 pub lay-at-spec : {M : Type 1} → statement M
 lay-at-spec =

@@ -1,8 +1,10 @@
 -- `moves::lift_at` meets its contract: its three steps, joined. Assumes nothing.
+use mathlib.Core.Path.{_∙_}
 use native.Mathlib.Omega.{arith}
 use Rattle.rules.specs.Board.{lifted}
 use Rattle.windows.proofs.Accepted.{set-countable}
-use Rattle.moves.proofs.Plane.{in-plane}
+use Rattle.nearness.proofs.Leaning.{in-plane}
+use Rattle.recount.proofs.Recounts.{in-spans, recounted-is}
 use borrow.Author.Needs.{needs}
 use Rattle.moves.proofs.lift_at.Statement.{statement}
 use Rattle.moves.proofs.lift_at.Tie as tie
@@ -23,7 +25,9 @@ lower-near-requires : tie.Need-lower-near-requires
 lower-near-requires c κs = search needs
 
 recount-near-requires : tie.Need-recount-near-requires
-recount-near-requires c κs = (c .before .before .before .before .before .before .before .before .before .before .before .before .pre .counts, c .before .before .before .before .before .before .before .before .before .before .before .before .pre .near, set-countable _ _ _ _ _ (omega arith) (omega (arith, c .before .before .before .before .before .before .before .before .before .before .before .before .pre)) _ (c .before .before .before .before .before .before .before .before .before .before .before .before .pre .ready))
+recount-near-requires c κs =
+    let p = c .before .before .before .before .before .before .before .before .before .before .before .before .pre in
+    (in-spans _ _ _ _ _ _ (p .counts) (p .near), set-countable _ _ _ _ _ (omega arith) (omega (arith, c .before .before .before .before .before .before .before .before .before .before .before .before .pre)) _ (p .ready))
 
 same-length : tie.Need-same-length
 same-length c = search needs
@@ -36,7 +40,9 @@ same-length-3 c = search needs
 
 returns : tie.Need-returns
 unfolding lifted
-returns c = rw (c .before .before .before .before .before .before .before .lower-near .ensures, c .before .before .recount-near .ensures)
+returns c =
+    let p = c .before .before .before .before .before .before .before .before .before .before .before .before .before .before .before .pre in
+    rw (c .before .before .before .before .before .before .before .lower-near .ensures, c .before .before .recount-near .ensures ∙ recounted-is _ _ _ _ _ _ (p .counts) (p .near) _ _)
 
 pub lift-at-spec : {M : Type 1} → statement M
 lift-at-spec =

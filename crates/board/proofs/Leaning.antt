@@ -1,0 +1,71 @@
+-- What lay and lift lean on once the checks of the planes and of the place have passed.
+--     contents-by     the contents, by the number of tiles that `tile_number` answers
+--     standing        what the rule beneath the checks asks of the board, the cell and the spans round it
+--     colour-low      a colour that may be laid is a colour of the count, and the count is in bounds
+-- Assumes nothing.
+use Prim.Native.Nat.{ℕ, _≤_}
+use mathlib.Core.Path.{_≡_, refl, sym, _∙_, ap}
+use mathlib.Core.Bool.{true}
+use mathlib.Core.List.{List}
+use native.Mathlib.Omega.{arith}
+use Rattle.base.specs.Counting.{within}
+use Rattle.base.specs.Refusal.{refusal}
+use Rattle.base.proofs.Numbers.{within-high}
+use Rattle.base.proofs.Chain.{Passes, all-pass}
+use Rattle.rules.specs.Bounds.{maxColours, maxWeight}
+use Rattle.rules.specs.Tests.{boardSides, tilesIn, colourCount, noneAbove, onBoard}
+use Rattle.rules.specs.Places.{cellOf}
+use Rattle.rules.specs.Tiles.{tilesCounted}
+use Rattle.rules.specs.Fit.{piecesChecks, placeChecks}
+use Rattle.rules.specs.Board.{Board, boardContents, boardChecks, layingChecks}
+use Rattle.rules.specs.Promises.{board, panel}
+use Rattle.rules.specs.declared.World.{World}
+use Rattle.rules.specs.declared.Offset.{Offset}
+use Rattle.rules.specs.declared.Cell.{Cell}
+use Rattle.rules.specs.declared.Span.{Span}
+use Rattle.rules.specs.declared.SpanAnswer.{SpanAnswer}
+use Rattle.rules.specs.declared.SpanAnswer.the-variants.{Spans}
+use Rattle.rules.specs.declared.TileNumber.{TileNumber}
+use Rattle.rules.specs.declared.TileNumber.the-variants.{Tiles}
+use Rattle.checks.proofs.Sides.{none-above, count-most}
+use Rattle.checks.proofs.Tiled.{so-many}
+use Rattle.places.proofs.Indices.{placed}
+use Rattle.windows.proofs.Accepted.{ready-from}
+use Rattle.nearness.specs.Near.{nearSpans}
+use Rattle.nearness.proofs.Leaning.{on-plane}
+use Rattle.nearness.proofs.Placing.{place-passes, nearby}
+use Rattle.moves.specs.Standing.{Standing}
+
+pub contents-by : (tiles : List ℕ) (count : ℕ) (b : Board) (a : TileNumber) (x : ℕ) → a ≡ Tiles x → a ≡ tilesCounted tiles
+    → (m : ℕ) → m ≡ refusal (boardContents tiles count b x) → m ≡ refusal (boardContents tiles count b (tilesIn tiles))
+contents-by tiles count b a x y t m e = e ∙ ap (λ (n : ℕ). refusal (boardContents tiles count b n)) (so-many tiles a t x y)
+
+module _ (pieces weights counts : List ℕ) (rows cols : ℕ) (tiles : List ℕ) (count : ℕ) (o : Offset)
+    (e : 0 ≡ refusal (boardChecks (panel rows cols tiles o) count (board pieces weights counts))) where
+  passed : Passes (boardChecks (panel rows cols tiles o) count (board pieces weights counts))
+  passed = all-pass (boardChecks (panel rows cols tiles o) count (board pieces weights counts)) refl (sym e)
+
+  pub standing : (w : World) (a : SpanAnswer) (down across : Span) → a ≡ Spans down across → a ≡ nearSpans rows cols w o
+      → (cell : Cell) → cell ≡ cellOf w o → Standing (board pieces weights counts) rows cols tiles cell down across
+  standing w a down across z n cell q =
+      let h = passed in
+      let b : onBoard rows cols w o ≡ true = placed rows cols w o (sym (place-passes rows cols w o a down across z n)) .boarded in
+      let y : Passes (piecesChecks pieces rows cols tiles count) = search in
+      let low : noneAbove weights maxWeight ≡ true = search in
+      rw q
+      record {
+        pieces = on-plane pieces rows cols w o (search) (search) b;
+        weights = on-plane weights rows cols w o (search) (search) b;
+        counts = on-plane counts rows cols w o (search) (search) b;
+        near = nearby rows cols w o a down across z n;
+        ready = ready-from pieces rows cols tiles count y .tried;
+        light = λ i l. omega (arith, none-above weights maxWeight low i l);
+      }
+
+  pub colour-low : (k colour : ℕ) → 0 ≡ refusal (layingChecks pieces k count colour) → colour ≤ maxColours
+  colour-low k colour f =
+      let h = passed in
+      let l = all-pass (layingChecks pieces k count colour) refl (sym f) in
+      let c : colourCount count ≡ true = search in
+      let w : within 1 count colour ≡ true = search in
+      omega (arith, count-most count c, within-high 1 count colour w)
