@@ -4,9 +4,8 @@ use Prim.Native.Nat.{ℕ, _*_}
 use mathlib.Core.Bool.{Bool}
 use mathlib.Core.List.{List}
 use lib.Ieee.{Float, nan}
-use denote.Ref.{RefT}
-use denote.Triple.Both.{Both}
 use Rattle.base.specs.Refusal.{Checks, Gives, Does}
+pub use Rattle.base.specs.Lent.{Lent, before, after}
 use Rattle.rules.specs.Answers.{writtenAnswer}
 use Rattle.rules.specs.Floats.{one64}
 use Rattle.rules.specs.Grid.{Kind, flat, numberOf}
@@ -25,15 +24,6 @@ use Rattle.rules.specs.declared.LayAnswer.{LayAnswer}
 use Rattle.rules.specs.declared.LiftAnswer.{LiftAnswer}
 
 -- ---- lent memory
-
-abbrev pub Lent : Type 0 → Type 0
-Lent A = Both (RefT A) (RefT A)
-
-abbrev pub before : {A : Type 0} → Lent A → A
-before plane = plane .entry .now
-
-abbrev pub after : {A : Type 0} → Lent A → A
-after plane = plane .exit .now
 
 abbrev pub board : List ℕ → List ℕ → List ℕ → Board
 board pieces weights counts = record { pieces = pieces; weights = weights; counts = counts }
