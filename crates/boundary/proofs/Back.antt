@@ -1,12 +1,9 @@
 -- The laws of the boundary: an answer's number is passed on, and what holds of an answer holds of the definition that it equals. Assumes
 -- nothing.
 use Prim.Native.Nat.{ℕ}
-use mathlib.Core.Path.{_≡_, sym, _∙_, ap, ap₂, subst}
+use mathlib.Core.Path.{_≡_, sym, _∙_, ap, subst}
 use Rattle.base.specs.Refusal.{Gives}
-
--- a call's answer passed on as its number, the memory as it left it
-pub numbered : {A B : Type 0} (f : A → ℕ) {answer a : A} {left after : B} {r : ℕ} → r ≡ f a → Gives answer left a after → Gives (f answer) left r after
-numbered f p g = record { answered = p ∙ ap f (g .answered); leaves = g .leaves }
+use Rattle.boundary.specs.Boundary.{Numbered}
 
 -- a call's answer passed on as its number and the values that are stored
 pub passed-on : {A B : Type 0} (f : A → ℕ) (g : A → B → B) {a b : A} {l after : B} {r : ℕ} → a ≡ b → Gives (f a) (g a l) r after → Gives (f b) (g b l) r after
@@ -16,6 +13,15 @@ passed-on f g {l = l} {after = after} {r = r} e h = subst (λ x. Gives (f x) (g 
 pub stored : {A B : Type 0} (f : A → ℕ) (g : A → B → B) {a b : A} {l after : B} → a ≡ b → f b ≡ 0 → after ≡ g b l → Gives (f a) (g a l) 0 after
 stored f g {l = l} {after = after} e z p = subst (λ x. Gives (f x) (g x l) 0 after) (sym e) (record { answered = sym z; leaves = p })
 
--- the same as `numbered`, of a call at a place and an offset that functions gave
-pub numbered-at : {A B W O : Type 0} (f : A → ℕ) (answer : W → O → A) (left : W → O → B) {w v : W} {o p : O} {a : A} {after : B} {r : ℕ} → w ≡ v → o ≡ p → r ≡ f a → Gives (answer w o) (left w o) a after → Gives (f (answer v p)) (left v p) r after
-numbered-at f answer left e d n g = record { answered = n ∙ ap f (g .answered ∙ ap₂ answer e d); leaves = g .leaves ∙ ap₂ left e d }
+-- the answer of a call that writes, passed on as its number, at a place and an offset that functions gave
+pub numbered-at : {A B W O : Type 0} (number : A → ℕ) (promise : W → O → A → B → Type 0) {w v : W} {o p : O} {a : A} {left : B} {r : ℕ}
+    → w ≡ v → o ≡ p → r ≡ number a → promise w o a left → Numbered number (promise v p) r left
+numbered-at {W = W} {O = O} number promise {w = w} {p = p} {a = a} {left = left} e d n g =
+    record { answer = a; numbers = n; promised = subst (λ (x : W). promise x p a left) e (subst (λ (y : O). promise w y a left) d g) }
+
+-- two results that meet such a promise coincide, where the call's own do
+pub numbered-coincide : {A B : Type 0} (number : A → ℕ) (promise : A → B → Type 0) → ((a c : A) (l m : B) → promise a l → promise c m → (a ≡ c) × (l ≡ m))
+    → {r s : ℕ} {l m : B} → Numbered number promise r l → Numbered number promise s m → (r ≡ s) × (l ≡ m)
+numbered-coincide number promise one {l = l} {m = m} x y =
+    let e = one (x .answer) (y .answer) l m (x .promised) (y .promised) in
+    (x .numbers ∙ ap number (e .0) ∙ sym (y .numbers), e .1)

@@ -1,8 +1,11 @@
 -- Each answer at the boundary: its number (0 where the call is accepted, else document 01's refusal number) and what the slices lent for
--- its values hold then. An entry past the end of a slice is not stored; a refused call stores none.
+-- its values hold then. An entry past the end of a slice is not stored; a refused call stores none. `Tells..` is the promise of a
+-- function that tells an answer so; `Numbered` that of one that tells the answer of a call which writes.
 use Prim.Native.Nat.{ℕ}
+use mathlib.Core.Path.{_≡_}
 use mathlib.Core.List.{List}
 use lib.Ieee.{Float}
+use Rattle.base.specs.Refusal.{Gives}
 use Rattle.slots.specs.Slots.{put, digitOf}
 use Rattle.rules.specs.declared.TileBitset.{TileBitset}
 use Rattle.rules.specs.declared.Listing.{Listing}
@@ -28,6 +31,12 @@ use Rattle.rules.specs.declared.LayAnswer.the-variants as LayAnswer·
 use Rattle.rules.specs.declared.LiftAnswer.{LiftAnswer}
 use Rattle.rules.specs.declared.LiftAnswer.the-variants as LiftAnswer·
 
+-- r is the number of the answer of which, and of what the call leaves, its promise holds
+pub record Numbered {A B : Type 0} (number : A → ℕ) (promise : A → B → Type 0) (r : ℕ) (left : B) : Type 0 where
+  pub answer : A
+  pub numbers : r ≡ number answer
+  pub promised : promise answer left
+
 abbrev pub writtenNumber : Written → ℕ
 writtenNumber Written·.Done = 0
 writtenNumber (Written·.Refused n) = n
@@ -52,6 +61,9 @@ abbrev pub listingLeft : Listing → List ℕ → List ℕ
 listingLeft (Listing·.Colours s) out = setStored s out
 listingLeft (Listing·.Refused n) out = out
 
+abbrev pub TellsListing : Listing → List ℕ → ℕ → List ℕ → Type 0
+TellsListing answer out = Gives (listingNumber answer) (listingLeft answer out)
+
 abbrev pub tilesNumber : TileNumber → ℕ
 tilesNumber (TileNumber·.Tiles k) = 0
 tilesNumber (TileNumber·.Refused n) = n
@@ -59,6 +71,9 @@ tilesNumber (TileNumber·.Refused n) = n
 abbrev pub tilesLeft : TileNumber → List ℕ → List ℕ
 tilesLeft (TileNumber·.Tiles k) out = put out 0 k
 tilesLeft (TileNumber·.Refused n) out = out
+
+abbrev pub TellsTiles : TileNumber → List ℕ → ℕ → List ℕ → Type 0
+TellsTiles answer out = Gives (tilesNumber answer) (tilesLeft answer out)
 
 -- a dead end: 1 and its cell, or 0 where there is none
 abbrev pub deadEndNumber : DeadEnd → ℕ
@@ -71,6 +86,9 @@ deadEndLeft (DeadEnd·.At c) out = put (put (put out 0 1) 1 (c .0)) 2 (c .1)
 deadEndLeft DeadEnd·.Nowhere out = put out 0 0
 deadEndLeft (DeadEnd·.Refused n) out = out
 
+abbrev pub TellsDeadEnd : DeadEnd → List ℕ → ℕ → List ℕ → Type 0
+TellsDeadEnd answer out = Gives (deadEndNumber answer) (deadEndLeft answer out)
+
 abbrev pub setNumber : SetAnswer → ℕ
 setNumber (SetAnswer·.Set s) = 0
 setNumber (SetAnswer·.Refused n) = n
@@ -78,6 +96,9 @@ setNumber (SetAnswer·.Refused n) = n
 abbrev pub setLeft : SetAnswer → List ℕ → List ℕ
 setLeft (SetAnswer·.Set s) out = setStored s out
 setLeft (SetAnswer·.Refused n) out = out
+
+abbrev pub TellsSet : SetAnswer → List ℕ → ℕ → List ℕ → Type 0
+TellsSet answer out = Gives (setNumber answer) (setLeft answer out)
 
 abbrev pub verdictNumber : Verdict → ℕ
 verdictNumber (Verdict·.Is b) = 0
@@ -87,6 +108,9 @@ abbrev pub verdictLeft : Verdict → List ℕ → List ℕ
 verdictLeft (Verdict·.Is b) out = put out 0 (digitOf b)
 verdictLeft (Verdict·.Refused n) out = out
 
+abbrev pub TellsVerdict : Verdict → List ℕ → ℕ → List ℕ → Type 0
+TellsVerdict answer out = Gives (verdictNumber answer) (verdictLeft answer out)
+
 abbrev pub countNumber : Number → ℕ
 countNumber (Number·.Is k) = 0
 countNumber (Number·.Refused n) = n
@@ -94,6 +118,9 @@ countNumber (Number·.Refused n) = n
 abbrev pub countLeft : Number → List ℕ → List ℕ
 countLeft (Number·.Is k) out = put out 0 k
 countLeft (Number·.Refused n) out = out
+
+abbrev pub TellsCount : Number → List ℕ → ℕ → List ℕ → Type 0
+TellsCount answer out = Gives (countNumber answer) (countLeft answer out)
 
 abbrev pub fractionNumber : FractionAnswer → ℕ
 fractionNumber (FractionAnswer·.Is x) = 0
@@ -103,6 +130,9 @@ abbrev pub fractionLeft : FractionAnswer → List Float → List Float
 fractionLeft (FractionAnswer·.Is x) out = put out 0 x
 fractionLeft (FractionAnswer·.Refused n) out = out
 
+abbrev pub TellsFraction : FractionAnswer → List Float → ℕ → List Float → Type 0
+TellsFraction answer out = Gives (fractionNumber answer) (fractionLeft answer out)
+
 -- two spans: the start and the end of the rows, then of the columns
 abbrev pub spanNumber : SpanAnswer → ℕ
 spanNumber (SpanAnswer·.Spans r c) = 0
@@ -111,3 +141,7 @@ spanNumber (SpanAnswer·.Refused n) = n
 abbrev pub spanLeft : SpanAnswer → List ℕ → List ℕ
 spanLeft (SpanAnswer·.Spans r c) out = put (put (put (put out 0 (r .0)) 1 (r .1)) 2 (c .0)) 3 (c .1)
 spanLeft (SpanAnswer·.Refused n) out = out
+
+
+abbrev pub TellsSpans : SpanAnswer → List ℕ → ℕ → List ℕ → Type 0
+TellsSpans answer out = Gives (spanNumber answer) (spanLeft answer out)

@@ -1,8 +1,8 @@
 // How answers cross to another language: an answer is 0 or the refusal's number, and what a call finds goes into slices lent for it, a
 // cell, a span or a set as its numbers. An entry past the end of such a slice is not stored; a refused call stores none.
 ghost use mathlib.Core.Path.{_≡_};
-ghost use Rattle.base.specs.Refusal.{Gives};
-ghost use Rattle.boundary.specs.Boundary.{setNumber, setLeft, verdictNumber, verdictLeft, writtenNumber, layNumber, liftNumber, listingNumber, listingLeft};
+ghost use Rattle.rules.specs.Promises.{before, after};
+ghost use Rattle.boundary.specs.Boundary.{writtenNumber, layNumber, liftNumber, TellsListing, TellsSet, TellsVerdict};
 use rules::LayAnswer;
 use rules::LiftAnswer;
 use rules::Listing;
@@ -40,7 +40,7 @@ pub fn lifted(answer: LiftAnswer) -> u32
 }
 
 pub fn listed(answer: Listing, out: &mut [u32]) -> u32
-    ensures { λ r. ⌜ Gives (listingNumber answer) (listingLeft answer (now (out .entry))) r (now (out .exit)) ⌝ }
+    ensures { λ r. ⌜ TellsListing answer (before out) r (after out) ⌝ }
 {
     match answer {
         Listing::Colours(colours) => {
@@ -53,7 +53,7 @@ pub fn listed(answer: Listing, out: &mut [u32]) -> u32
 }
 
 pub fn set_given(answer: SetAnswer, out: &mut [u32]) -> u32
-    ensures { λ r. ⌜ Gives (setNumber answer) (setLeft answer (now (out .entry))) r (now (out .exit)) ⌝ }
+    ensures { λ r. ⌜ TellsSet answer (before out) r (after out) ⌝ }
 {
     match answer {
         SetAnswer::Set(set) => {
@@ -66,7 +66,7 @@ pub fn set_given(answer: SetAnswer, out: &mut [u32]) -> u32
 }
 
 pub fn told(answer: Verdict, out: &mut [u32]) -> u32
-    ensures { λ r. ⌜ Gives (verdictNumber answer) (verdictLeft answer (now (out .entry))) r (now (out .exit)) ⌝ }
+    ensures { λ r. ⌜ TellsVerdict answer (before out) r (after out) ⌝ }
 {
     match answer {
         Verdict::Is(truth) => {

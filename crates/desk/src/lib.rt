@@ -1,13 +1,8 @@
 // The functions of the desk program, which is C: fitting colours, lay and lift on numbers, byte tiles and u32 planes. include/desk.h is
 // their C side, for the C programmer; a place goes over as a row and a column on the wall, the offset likewise, each answer is 0 or
 // document 01's refusal number.
-ghost use Rattle.base.specs.Refusal.{Gives};
-ghost use Rattle.rules.specs.Fit.{listing};
-ghost use Rattle.rules.specs.Board.{laying, afterLay, lifting, afterLift};
-ghost use Rattle.planes.specs.Planes.{board, job};
-ghost use Rattle.slots.specs.Slots.{world, offsetBy};
-ghost use Rattle.boundary.specs.Boundary.{layNumber, liftNumber, listingNumber};
-ghost use Rattle.desk.specs.Found.{coloursLeft};
+ghost use Rattle.rules.specs.Promises.{before, after, boardBefore, boardAfter};
+ghost use Rattle.desk.specs.Desk.{TellsColours, DeskLists, DeskLays, DeskLifts};
 use boundary::laid;
 use boundary::lifted;
 use rules::Listing;
@@ -18,7 +13,7 @@ use slots::world_at;
 // The set goes over as one word of 64 bits, so that sets to 64 colours leave the C side as it is; further words are for what a listing may
 // tell one day beside its colours.
 fn found_colours(answer: Listing, found: &mut [u64]) -> u32
-    ensures { λ r. ⌜ Gives (listingNumber answer) (coloursLeft answer (now (found .entry))) r (now (found .exit)) ⌝ }
+    ensures { λ r. ⌜ TellsColours answer (before found) r (after found) ⌝ }
 {
     match answer {
         Listing::Colours(set) => {
@@ -42,7 +37,7 @@ pub extern "C" fn desk_fitting_colours(
     across: i32,
     found: &mut [u64],
 ) -> u32
-    ensures { λ r. ⌜ Gives (listingNumber (listing (now (pieces .entry)) rows cols (now (tiles .entry)) count (world row col) (offsetBy down across))) (coloursLeft (listing (now (pieces .entry)) rows cols (now (tiles .entry)) count (world row col) (offsetBy down across)) (now (found .entry))) r (now (found .exit)) ⌝ }
+    ensures { λ r. ⌜ DeskLists (before pieces) rows cols (before tiles) count row col down across (before found) r (after found) ⌝ }
 {
     let listed_at = world_at(row, col);
     let offset = offset_at(down, across);
@@ -73,7 +68,7 @@ pub extern "C" fn desk_lay(
     across: i32,
     colour: u32,
 ) -> u32
-    ensures { λ r. ⌜ Gives (layNumber (laying (job rows cols count (now (tiles .entry)) (offsetBy down across)) (board (now (pieces .entry)) (now (weights .entry)) (now (counts .entry))) (world row col) colour)) (afterLay (job rows cols count (now (tiles .entry)) (offsetBy down across)) (board (now (pieces .entry)) (now (weights .entry)) (now (counts .entry))) (world row col) colour) r (board (now (pieces .exit)) (now (weights .exit)) (now (counts .exit))) ⌝ }
+    ensures { λ r. ⌜ DeskLays rows cols (before tiles) count row col down across colour (boardBefore pieces weights counts) r (boardAfter pieces weights counts) ⌝ }
 {
     let laid_at = world_at(row, col);
     let offset = offset_at(down, across);
@@ -106,7 +101,7 @@ pub extern "C" fn desk_lift(
     down: i32,
     across: i32,
 ) -> u32
-    ensures { λ r. ⌜ Gives (liftNumber (lifting (job rows cols count (now (tiles .entry)) (offsetBy down across)) (board (now (pieces .entry)) (now (weights .entry)) (now (counts .entry))) (world row col))) (afterLift (job rows cols count (now (tiles .entry)) (offsetBy down across)) (board (now (pieces .entry)) (now (weights .entry)) (now (counts .entry))) (world row col)) r (board (now (pieces .exit)) (now (weights .exit)) (now (counts .exit))) ⌝ }
+    ensures { λ r. ⌜ DeskLifts rows cols (before tiles) count row col down across (boardBefore pieces weights counts) r (boardAfter pieces weights counts) ⌝ }
 {
     let lifted_at = world_at(row, col);
     let offset = offset_at(down, across);

@@ -1,16 +1,15 @@
 // The calls of the port for tests in another language: each hands its call the numbers and slices that it is given and tells its answer
 // as crate boundary does. Lay and lift are not among them: tests call the desk's.
-ghost use Rattle.base.specs.Refusal.{Gives, refusal};
-ghost use Rattle.rules.specs.Answers.{writtenAnswer};
+ghost use Rattle.rules.specs.Grid.{cellAt, flat};
 ghost use Rattle.rules.specs.Fit.{listing, regionCount};
 ghost use Rattle.rules.specs.Forced.{deadEnd};
-ghost use Rattle.rules.specs.Board.{freshChecks, afterFresh, weightChecks, afterRaise, afterLower, recountChecks, afterRecount};
 ghost use Rattle.rules.specs.Places.{regionSpans};
 ghost use Rattle.rules.specs.Scores.{fractionAt};
 ghost use Rattle.rules.specs.Sets.{emptySet, fullSet, inserted, contained, intersected, emptiness, membersCounted};
-ghost use Rattle.planes.specs.Planes.{board};
-ghost use Rattle.slots.specs.Slots.{world, offsetBy, cellAt, setFrom};
-ghost use Rattle.boundary.specs.Boundary.{setNumber, setLeft, verdictNumber, verdictLeft, countNumber, countLeft, fractionNumber, fractionLeft, spanNumber, spanLeft, writtenNumber, listingNumber, listingLeft, deadEndNumber, deadEndLeft};
+ghost use Rattle.rules.specs.Promises.{before, after, boardBefore, boardAfter, panel, Freshens, Raises, Lowers, Recounts};
+ghost use Rattle.slots.specs.Slots.{world, offsetBy, setFrom};
+ghost use Rattle.boundary.specs.Boundary.{Numbered, writtenNumber};
+ghost use Rattle.boundary.specs.Boundary.{TellsListing, TellsDeadEnd, TellsSpans, TellsSet, TellsVerdict, TellsCount, TellsFraction};
 use boundary::listed;
 use boundary::set_given;
 use boundary::told;
@@ -37,7 +36,7 @@ pub extern "C" fn port_listing(
     across: i32,
     out: &mut [u32],
 ) -> u32
-    ensures { λ r. ⌜ Gives (listingNumber (listing (now (pieces .entry)) rows cols (now (tiles .entry)) count (world row col) (offsetBy down across))) (listingLeft (listing (now (pieces .entry)) rows cols (now (tiles .entry)) count (world row col) (offsetBy down across)) (now (out .entry))) r (now (out .exit)) ⌝ }
+    ensures { λ r. ⌜ TellsListing (listing flat (before pieces) rows cols (before tiles) count (world row col) (offsetBy down across)) (before out) r (after out) ⌝ }
 {
     let position = world_at(row, col);
     let offset = offset_at(down, across);
@@ -63,7 +62,7 @@ pub extern "C" fn port_scan(
     count: u32,
     out: &mut [u64],
 ) -> u32
-    ensures { λ r. ⌜ Gives (deadEndNumber (deadEnd (now (pieces .entry)) (now (weights .entry)) rows cols (now (tiles .entry)) count)) (deadEndLeft (deadEnd (now (pieces .entry)) (now (weights .entry)) rows cols (now (tiles .entry)) count) (now (out .entry))) r (now (out .exit)) ⌝ }
+    ensures { λ r. ⌜ TellsDeadEnd (deadEnd flat (before pieces) (before weights) rows cols (before tiles) count) (before out) r (after out) ⌝ }
 {
     let answer = scan::check_for_contradiction(pieces, weights, rows, cols, tiles, count);
     scanned(answer, out)
@@ -78,7 +77,7 @@ pub extern "C" fn port_fresh(
     cols: usize,
     tiles: usize,
 ) -> u32
-    ensures { λ r. ⌜ Gives (writtenNumber (writtenAnswer (refusal (freshChecks rows cols tiles (board (now (pieces .entry)) (now (weights .entry)) (now (counts .entry))))))) (afterFresh rows cols tiles (board (now (pieces .entry)) (now (weights .entry)) (now (counts .entry)))) r (board (now (pieces .exit)) (now (weights .exit)) (now (counts .exit))) ⌝ }
+    ensures { λ r. ⌜ Numbered writtenNumber (Freshens rows cols tiles (boardBefore pieces weights counts)) r (boardAfter pieces weights counts) ⌝ }
 {
     let answer = planes::fresh(pieces, weights, counts, rows, cols, tiles);
     written(answer)
@@ -93,7 +92,7 @@ pub extern "C" fn port_get_region_spans(
     radius: usize,
     out: &mut [u64],
 ) -> u32
-    ensures { λ r. ⌜ Gives (spanNumber (regionSpans (offsetBy down across) (world row col) radius)) (spanLeft (regionSpans (offsetBy down across) (world row col) radius) (now (out .entry))) r (now (out .exit)) ⌝ }
+    ensures { λ r. ⌜ TellsSpans (regionSpans (offsetBy down across) (world row col) radius) (before out) r (after out) ⌝ }
 {
     let position = world_at(row, col);
     let offset = offset_at(down, across);
@@ -103,7 +102,7 @@ pub extern "C" fn port_get_region_spans(
 
 #[no_mangle]
 pub extern "C" fn port_set_new(size: u32, out: &mut [u32]) -> u32
-    ensures { λ r. ⌜ Gives (setNumber (emptySet size)) (setLeft (emptySet size) (now (out .entry))) r (now (out .exit)) ⌝ }
+    ensures { λ r. ⌜ TellsSet (emptySet size) (before out) r (after out) ⌝ }
 {
     let answer = bitset::new(size);
     set_given(answer, out)
@@ -111,7 +110,7 @@ pub extern "C" fn port_set_new(size: u32, out: &mut [u32]) -> u32
 
 #[no_mangle]
 pub extern "C" fn port_set_all(size: u32, out: &mut [u32]) -> u32
-    ensures { λ r. ⌜ Gives (setNumber (fullSet size)) (setLeft (fullSet size) (now (out .entry))) r (now (out .exit)) ⌝ }
+    ensures { λ r. ⌜ TellsSet (fullSet size) (before out) r (after out) ⌝ }
 {
     let answer = bitset::all(size);
     set_given(answer, out)
@@ -119,7 +118,7 @@ pub extern "C" fn port_set_all(size: u32, out: &mut [u32]) -> u32
 
 #[no_mangle]
 pub extern "C" fn port_set_insert(bits: u32, size: u32, colour: u32, out: &mut [u32]) -> u32
-    ensures { λ r. ⌜ Gives (setNumber (inserted (setFrom bits size) colour)) (setLeft (inserted (setFrom bits size) colour) (now (out .entry))) r (now (out .exit)) ⌝ }
+    ensures { λ r. ⌜ TellsSet (inserted (setFrom bits size) colour) (before out) r (after out) ⌝ }
 {
     let answer = bitset::insert(TileBitset { bits, size }, colour);
     set_given(answer, out)
@@ -127,7 +126,7 @@ pub extern "C" fn port_set_insert(bits: u32, size: u32, colour: u32, out: &mut [
 
 #[no_mangle]
 pub extern "C" fn port_set_contains(bits: u32, size: u32, colour: u32, out: &mut [u32]) -> u32
-    ensures { λ r. ⌜ Gives (verdictNumber (contained (setFrom bits size) colour)) (verdictLeft (contained (setFrom bits size) colour) (now (out .entry))) r (now (out .exit)) ⌝ }
+    ensures { λ r. ⌜ TellsVerdict (contained (setFrom bits size) colour) (before out) r (after out) ⌝ }
 {
     let answer = bitset::contains(TileBitset { bits, size }, colour);
     told(answer, out)
@@ -141,7 +140,7 @@ pub extern "C" fn port_set_intersection(
     most: u32,
     out: &mut [u32],
 ) -> u32
-    ensures { λ r. ⌜ Gives (setNumber (intersected (setFrom bits size) (setFrom others most))) (setLeft (intersected (setFrom bits size) (setFrom others most)) (now (out .entry))) r (now (out .exit)) ⌝ }
+    ensures { λ r. ⌜ TellsSet (intersected (setFrom bits size) (setFrom others most)) (before out) r (after out) ⌝ }
 {
     let answer = bitset::intersection(
         TileBitset { bits, size },
@@ -155,7 +154,7 @@ pub extern "C" fn port_set_intersection(
 
 #[no_mangle]
 pub extern "C" fn port_set_is_empty(bits: u32, size: u32, out: &mut [u32]) -> u32
-    ensures { λ r. ⌜ Gives (verdictNumber (emptiness (setFrom bits size))) (verdictLeft (emptiness (setFrom bits size)) (now (out .entry))) r (now (out .exit)) ⌝ }
+    ensures { λ r. ⌜ TellsVerdict (emptiness (setFrom bits size)) (before out) r (after out) ⌝ }
 {
     let answer = bitset::is_empty(TileBitset { bits, size });
     told(answer, out)
@@ -163,7 +162,7 @@ pub extern "C" fn port_set_is_empty(bits: u32, size: u32, out: &mut [u32]) -> u3
 
 #[no_mangle]
 pub extern "C" fn port_set_count(bits: u32, size: u32, out: &mut [u64]) -> u32
-    ensures { λ r. ⌜ Gives (countNumber (membersCounted (setFrom bits size))) (countLeft (membersCounted (setFrom bits size)) (now (out .entry))) r (now (out .exit)) ⌝ }
+    ensures { λ r. ⌜ TellsCount (membersCounted (setFrom bits size)) (before out) r (after out) ⌝ }
 {
     let answer = bitset::count(TileBitset { bits, size });
     counted(answer, out)
@@ -180,7 +179,7 @@ pub extern "C" fn port_region_count(
     col: usize,
     out: &mut [u64],
 ) -> u32
-    ensures { λ r. ⌜ Gives (countNumber (regionCount (now (pieces .entry)) rows cols (now (tiles .entry)) count (cellAt row col))) (countLeft (regionCount (now (pieces .entry)) rows cols (now (tiles .entry)) count (cellAt row col)) (now (out .entry))) r (now (out .exit)) ⌝ }
+    ensures { λ r. ⌜ TellsCount (regionCount flat (before pieces) rows cols (before tiles) count (cellAt row col)) (before out) r (after out) ⌝ }
 {
     let answer = fit::count_fitting(pieces, rows, cols, tiles, count, Cell(row, col));
     counted(answer, out)
@@ -196,7 +195,7 @@ pub extern "C" fn port_fraction(
     col: usize,
     out: &mut [f64],
 ) -> u32
-    ensures { λ r. ⌜ Gives (fractionNumber (fractionAt (now (counts .entry)) rows cols tiles (cellAt row col))) (fractionLeft (fractionAt (now (counts .entry)) rows cols tiles (cellAt row col)) (now (out .entry))) r (now (out .exit)) ⌝ }
+    ensures { λ r. ⌜ TellsFraction (fractionAt (before counts) rows cols tiles (cellAt row col)) (before out) r (after out) ⌝ }
 {
     let answer = fit::get_fraction(counts, rows, cols, tiles, Cell(row, col));
     divided(answer, out)
@@ -212,7 +211,7 @@ pub extern "C" fn port_raise_weights(
     down: i32,
     across: i32,
 ) -> u32
-    ensures { λ r. ⌜ Gives (writtenNumber (writtenAnswer (refusal (weightChecks (now (weights .entry)) rows cols (world row col) (offsetBy down across))))) (afterRaise (now (weights .entry)) rows cols (world row col) (offsetBy down across)) r (now (weights .exit)) ⌝ }
+    ensures { λ r. ⌜ Numbered writtenNumber (Raises flat rows cols (world row col) (offsetBy down across) (before weights)) r (after weights) ⌝ }
 {
     let position = world_at(row, col);
     let offset = offset_at(down, across);
@@ -230,7 +229,7 @@ pub extern "C" fn port_lower_weights(
     down: i32,
     across: i32,
 ) -> u32
-    ensures { λ r. ⌜ Gives (writtenNumber (writtenAnswer (refusal (weightChecks (now (weights .entry)) rows cols (world row col) (offsetBy down across))))) (afterLower (now (weights .entry)) rows cols (world row col) (offsetBy down across)) r (now (weights .exit)) ⌝ }
+    ensures { λ r. ⌜ Numbered writtenNumber (Lowers flat rows cols (world row col) (offsetBy down across) (before weights)) r (after weights) ⌝ }
 {
     let position = world_at(row, col);
     let offset = offset_at(down, across);
@@ -251,7 +250,7 @@ pub extern "C" fn port_recount(
     down: i32,
     across: i32,
 ) -> u32
-    ensures { λ r. ⌜ Gives (writtenNumber (writtenAnswer (refusal (recountChecks (now (counts .entry)) (now (pieces .entry)) rows cols (now (tiles .entry)) count (world row col) (offsetBy down across))))) (afterRecount (now (counts .entry)) (now (pieces .entry)) rows cols (now (tiles .entry)) count (world row col) (offsetBy down across)) r (now (counts .exit)) ⌝ }
+    ensures { λ r. ⌜ Numbered writtenNumber (Recounts (panel rows cols (before tiles) (offsetBy down across)) count (world row col) (before pieces) (before counts)) r (after counts) ⌝ }
 {
     let position = world_at(row, col);
     let offset = offset_at(down, across);

@@ -1,6 +1,6 @@
 // Answers that cross to another language with 64-bit numbers or a float: how many, a cell, spans, a fraction; as `boundary` says.
-ghost use Rattle.base.specs.Refusal.{Gives};
-ghost use Rattle.boundary.specs.Boundary.{countNumber, countLeft, fractionNumber, fractionLeft, spanNumber, spanLeft, tilesNumber, tilesLeft, deadEndNumber, deadEndLeft};
+ghost use Rattle.rules.specs.Promises.{before, after};
+ghost use Rattle.boundary.specs.Boundary.{TellsCount, TellsFraction, TellsSpans, TellsTiles, TellsDeadEnd};
 use rules::DeadEnd;
 use rules::FractionAnswer;
 use rules::Number;
@@ -10,7 +10,7 @@ use slots::put_float;
 use slots::put_long;
 
 pub fn extracted(answer: TileNumber, out: &mut [u64]) -> u32
-    ensures { λ r. ⌜ Gives (tilesNumber answer) (tilesLeft answer (now (out .entry))) r (now (out .exit)) ⌝ }
+    ensures { λ r. ⌜ TellsTiles answer (before out) r (after out) ⌝ }
 {
     match answer {
         TileNumber::Tiles(tiles) => {
@@ -22,7 +22,7 @@ pub fn extracted(answer: TileNumber, out: &mut [u64]) -> u32
 }
 
 pub fn scanned(answer: DeadEnd, out: &mut [u64]) -> u32
-    ensures { λ r. ⌜ Gives (deadEndNumber answer) (deadEndLeft answer (now (out .entry))) r (now (out .exit)) ⌝ }
+    ensures { λ r. ⌜ TellsDeadEnd answer (before out) r (after out) ⌝ }
 {
     match answer {
         DeadEnd::At(cell) => {
@@ -40,7 +40,7 @@ pub fn scanned(answer: DeadEnd, out: &mut [u64]) -> u32
 }
 
 pub fn counted(answer: Number, out: &mut [u64]) -> u32
-    ensures { λ r. ⌜ Gives (countNumber answer) (countLeft answer (now (out .entry))) r (now (out .exit)) ⌝ }
+    ensures { λ r. ⌜ TellsCount answer (before out) r (after out) ⌝ }
 {
     match answer {
         Number::Is(k) => {
@@ -52,7 +52,7 @@ pub fn counted(answer: Number, out: &mut [u64]) -> u32
 }
 
 pub fn divided(answer: FractionAnswer, out: &mut [f64]) -> u32
-    ensures { λ r. ⌜ Gives (fractionNumber answer) (fractionLeft answer (now (out .entry))) r (now (out .exit)) ⌝ }
+    ensures { λ r. ⌜ TellsFraction answer (before out) r (after out) ⌝ }
 {
     match answer {
         FractionAnswer::Is(x) => {
@@ -64,7 +64,7 @@ pub fn divided(answer: FractionAnswer, out: &mut [f64]) -> u32
 }
 
 pub fn spanned(answer: SpanAnswer, out: &mut [u64]) -> u32
-    ensures { λ r. ⌜ Gives (spanNumber answer) (spanLeft answer (now (out .entry))) r (now (out .exit)) ⌝ }
+    ensures { λ r. ⌜ TellsSpans answer (before out) r (after out) ⌝ }
 {
     match answer {
         SpanAnswer::Spans(rows, cols) => {

@@ -1,4 +1,4 @@
--- What crosses to another language in both directions: places, cells and sets from their numbers, a value in an entry of a lent slice, a
+-- What crosses to another language in both directions: places and sets from their numbers, a value in an entry of a lent slice, a
 -- truth as a number.
 use Prim.Native.Nat.{ℕ}
 use mathlib.Core.Bool.{Bool, true, false}
@@ -7,7 +7,6 @@ use lib.ListN.{set}
 use lib.IntN.{ℤ}
 use Rattle.rules.specs.declared.World.{World}
 use Rattle.rules.specs.declared.Offset.{Offset}
-use Rattle.rules.specs.declared.Cell.{Cell}
 use Rattle.rules.specs.declared.TileBitset.{TileBitset}
 
 -- ---- what goes in
@@ -17,9 +16,6 @@ world row col = record { 0 = row; 1 = col }
 
 abbrev pub offsetBy : ℤ → ℤ → Offset
 offsetBy row col = record { 0 = row; 1 = col }
-
-abbrev pub cellAt : ℕ → ℕ → Cell
-cellAt row col = record { 0 = row; 1 = col }
 
 abbrev pub setFrom : ℕ → ℕ → TileBitset
 setFrom bits size = record { bits = bits; size = size }

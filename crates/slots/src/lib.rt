@@ -1,12 +1,13 @@
 // What every crossing to another language uses: a value put into an entry of a lent slice, a place or an offset taken from its two numbers,
 // a truth as 0 or 1. An entry past the end of such a slice is not stored.
 ghost use mathlib.Core.Path.{_≡_};
+ghost use Rattle.rules.specs.Promises.{before, after};
 ghost use Rattle.slots.specs.Slots.{put, world, offsetBy, digitOf};
 use rules::Offset;
 use rules::World;
 
 pub fn put_word(words: &mut [u32], at: usize, word: u32)
-    ensures { λ _. ⌜ now (words .exit) ≡ put (now (words .entry)) at word ⌝ }
+    ensures { λ _. ⌜ after words ≡ put (before words) at word ⌝ }
 {
     if at < words.len() {
         words[at] = word;
@@ -14,7 +15,7 @@ pub fn put_word(words: &mut [u32], at: usize, word: u32)
 }
 
 pub fn put_long(longs: &mut [u64], at: usize, long: u64)
-    ensures { λ _. ⌜ now (longs .exit) ≡ put (now (longs .entry)) at long ⌝ }
+    ensures { λ _. ⌜ after longs ≡ put (before longs) at long ⌝ }
 {
     if at < longs.len() {
         longs[at] = long;
@@ -22,7 +23,7 @@ pub fn put_long(longs: &mut [u64], at: usize, long: u64)
 }
 
 pub fn put_float(floats: &mut [f64], at: usize, float: f64)
-    ensures { λ _. ⌜ now (floats .exit) ≡ put (now (floats .entry)) at float ⌝ }
+    ensures { λ _. ⌜ after floats ≡ put (before floats) at float ⌝ }
 {
     if at < floats.len() {
         floats[at] = float;
@@ -30,7 +31,7 @@ pub fn put_float(floats: &mut [f64], at: usize, float: f64)
 }
 
 pub fn put_byte(bytes: &mut [u8], at: usize, byte: u8)
-    ensures { λ _. ⌜ now (bytes .exit) ≡ put (now (bytes .entry)) at byte ⌝ }
+    ensures { λ _. ⌜ after bytes ≡ put (before bytes) at byte ⌝ }
 {
     if at < bytes.len() {
         bytes[at] = byte;
@@ -38,7 +39,7 @@ pub fn put_byte(bytes: &mut [u8], at: usize, byte: u8)
 }
 
 pub fn put_signed(numbers: &mut [i32], at: usize, number: i32)
-    ensures { λ _. ⌜ now (numbers .exit) ≡ put (now (numbers .entry)) at number ⌝ }
+    ensures { λ _. ⌜ after numbers ≡ put (before numbers) at number ⌝ }
 {
     if at < numbers.len() {
         numbers[at] = number;

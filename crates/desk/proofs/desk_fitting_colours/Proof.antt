@@ -2,10 +2,11 @@
 use Rattle.slots.proofs.Storing.{world-is, offset-is}
 use Rattle.boundary.proofs.Back.{passed-on}
 use Rattle.boundary.specs.Boundary.{listingNumber}
-use Rattle.desk.specs.Found.{coloursLeft}
+use Rattle.desk.specs.Desk.{coloursLeft}
 use mathlib.Core.Path.{_∙_, ap₂}
 use Rattle.rules.specs.declared.World.{World}
 use Rattle.rules.specs.declared.Offset.{Offset}
+use Rattle.rules.specs.Grid.{flat}
 use Rattle.rules.specs.Fit.{listing}
 use borrow.Author.Needs.{needs}
 use Rattle.desk.proofs.desk_fitting_colours.Statement.{statement}
@@ -30,7 +31,7 @@ returns : tie.Need-returns
 returns c =
     let e = c .before .before .before .before .before .before .before .before .before .before in
     let a = e .args in
-    passed-on listingNumber coloursLeft (c .before .before .before .before .compute-viable-tiles-at-position .ensures ∙ ap₂ (λ (w : World) (o : Offset). listing (a .pieces .now) (a .rows) (a .cols) (a .tiles .now) (a .count) w o) (c .before .before .before .before .before .before .world-at .ensures ∙ world-is (e .fits .row) (e .fits .col)) (c .before .before .before .before .before .offset-at .ensures ∙ offset-is (e .fits .down) (e .fits .across))) (c .before .before .found-colours .ensures)
+    passed-on listingNumber coloursLeft (c .before .before .before .before .compute-viable-tiles-at-position .ensures ∙ ap₂ (λ (w : World) (o : Offset). listing flat (a .pieces .now) (a .rows) (a .cols) (a .tiles .now) (a .count) w o) (c .before .before .before .before .before .before .world-at .ensures ∙ world-is (e .fits .row) (e .fits .col)) (c .before .before .before .before .before .offset-at .ensures ∙ offset-is (e .fits .down) (e .fits .across))) (c .before .before .found-colours .ensures)
 
 pub desk-fitting-colours-spec : {M : Type 1} → statement M
 desk-fitting-colours-spec = tie.close (tie.spec world-at-requires offset-at-requires compute-viable-tiles-at-position-requires found-colours-requires same-length returns)

@@ -5,8 +5,7 @@ use Rattle.boundary.specs.Boundary.{layNumber}
 use mathlib.Core.Path.{_∙_}
 use Rattle.rules.specs.declared.World.{World}
 use Rattle.rules.specs.declared.Offset.{Offset}
-use Rattle.rules.specs.Board.{laying, afterLay}
-use Rattle.planes.specs.Planes.{board, job}
+use Rattle.rules.specs.Promises.{board, panel, Lays}
 use borrow.Author.Needs.{needs}
 use Rattle.desk.proofs.desk_lay.Statement.{statement}
 use Rattle.desk.proofs.desk_lay.Tie as tie
@@ -36,7 +35,9 @@ returns : tie.Need-returns
 returns c =
     let e = c .before .before .before .before .before .before .before .before .before .before .before .before .before .before .before .before .before in
     let a = e .args in
-    numbered-at layNumber (λ (w : World) (o : Offset). laying (job (a .rows) (a .cols) (a .count) (a .tiles .now) o) (board (a .pieces .now) (a .weights .now) (a .counts .now)) w (a .colour)) (λ (w : World) (o : Offset). afterLay (job (a .rows) (a .cols) (a .count) (a .tiles .now) o) (board (a .pieces .now) (a .weights .now) (a .counts .now)) w (a .colour)) (c .before .before .before .before .before .before .before .before .before .before .before .before .world-at .ensures ∙ world-is (e .fits .row) (e .fits .col)) (c .before .before .before .before .before .before .before .before .before .before .before .offset-at .ensures ∙ offset-is (e .fits .down) (e .fits .across)) (c .laid .ensures) (c .before .before .before .before .before .before .before .lay .ensures)
+    numbered-at layNumber
+    (λ (w : World) (o : Offset). Lays (panel (a .rows) (a .cols) (a .tiles .now) o) (a .count) w (a .colour) (board (a .pieces .now) (a .weights .now) (a .counts .now)))
+    (c .before .before .before .before .before .before .before .before .before .before .before .before .world-at .ensures ∙ world-is (e .fits .row) (e .fits .col)) (c .before .before .before .before .before .before .before .before .before .before .before .offset-at .ensures ∙ offset-is (e .fits .down) (e .fits .across)) (c .laid .ensures) (c .before .before .before .before .before .before .before .lay .ensures)
 
 pub desk-lay-spec : {M : Type 1} → statement M
 desk-lay-spec = tie.close (tie.spec world-at-requires offset-at-requires lay-requires laid-requires same-length same-length-2 same-length-3 returns)

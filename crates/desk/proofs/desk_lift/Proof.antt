@@ -5,8 +5,7 @@ use Rattle.boundary.specs.Boundary.{liftNumber}
 use mathlib.Core.Path.{_∙_}
 use Rattle.rules.specs.declared.World.{World}
 use Rattle.rules.specs.declared.Offset.{Offset}
-use Rattle.rules.specs.Board.{lifting, afterLift}
-use Rattle.planes.specs.Planes.{board, job}
+use Rattle.rules.specs.Promises.{board, panel, Lifts}
 use borrow.Author.Needs.{needs}
 use Rattle.desk.proofs.desk_lift.Statement.{statement}
 use Rattle.desk.proofs.desk_lift.Tie as tie
@@ -36,7 +35,9 @@ returns : tie.Need-returns
 returns c =
     let e = c .before .before .before .before .before .before .before .before .before .before .before .before .before .before .before .before .before in
     let a = e .args in
-    numbered-at liftNumber (λ (w : World) (o : Offset). lifting (job (a .rows) (a .cols) (a .count) (a .tiles .now) o) (board (a .pieces .now) (a .weights .now) (a .counts .now)) w) (λ (w : World) (o : Offset). afterLift (job (a .rows) (a .cols) (a .count) (a .tiles .now) o) (board (a .pieces .now) (a .weights .now) (a .counts .now)) w) (c .before .before .before .before .before .before .before .before .before .before .before .before .world-at .ensures ∙ world-is (e .fits .row) (e .fits .col)) (c .before .before .before .before .before .before .before .before .before .before .before .offset-at .ensures ∙ offset-is (e .fits .down) (e .fits .across)) (c .lifted .ensures) (c .before .before .before .before .before .before .before .lift .ensures)
+    numbered-at liftNumber
+    (λ (w : World) (o : Offset). Lifts (panel (a .rows) (a .cols) (a .tiles .now) o) (a .count) w (board (a .pieces .now) (a .weights .now) (a .counts .now)))
+    (c .before .before .before .before .before .before .before .before .before .before .before .before .world-at .ensures ∙ world-is (e .fits .row) (e .fits .col)) (c .before .before .before .before .before .before .before .before .before .before .before .offset-at .ensures ∙ offset-is (e .fits .down) (e .fits .across)) (c .lifted .ensures) (c .before .before .before .before .before .before .before .lift .ensures)
 
 pub desk-lift-spec : {M : Type 1} → statement M
 desk-lift-spec = tie.close (tie.spec world-at-requires offset-at-requires lift-requires lifted-requires same-length same-length-2 same-length-3 returns)

@@ -1,7 +1,7 @@
 -- `desk::found_colours` meets its contract: each case of the answer gives its number and its values. Assumes nothing.
 use Rattle.boundary.proofs.Back.{stored}
 use Rattle.boundary.specs.Boundary.{listingNumber}
-use Rattle.desk.specs.Found.{coloursLeft}
+use Rattle.desk.specs.Desk.{coloursLeft}
 use mathlib.Core.Path.{refl}
 use borrow.Author.Needs.{needs}
 use Rattle.desk.proofs.found_colours.Statement.{statement}

@@ -1,6 +1,4 @@
 -- `harness::port_fresh` meets its contract: the answer by its definition, passed on. Assumes nothing.
-use Rattle.boundary.proofs.Back.{numbered}
-use Rattle.boundary.specs.Boundary.{writtenNumber}
 use borrow.Author.Needs.{needs}
 use Rattle.harness.proofs.port_fresh.Statement.{statement}
 use Rattle.harness.proofs.port_fresh.Tie as tie
@@ -21,7 +19,7 @@ same-length-3 : tie.Need-same-length-3
 same-length-3 c = search needs
 
 returns : tie.Need-returns
-returns c = numbered writtenNumber (c .written .ensures) (c .before .before .before .before .before .before .before .fresh .ensures)
+returns c = record { answer = _; numbers = c .written .ensures; promised = c .before .before .before .before .before .before .before .fresh .ensures }
 
 pub port-fresh-spec : {M : Type 1} → statement M
 port-fresh-spec =

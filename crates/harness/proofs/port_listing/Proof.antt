@@ -5,6 +5,7 @@ use Rattle.boundary.specs.Boundary.{listingNumber, listingLeft}
 use mathlib.Core.Path.{_∙_, ap₂}
 use Rattle.rules.specs.declared.World.{World}
 use Rattle.rules.specs.declared.Offset.{Offset}
+use Rattle.rules.specs.Grid.{flat}
 use Rattle.rules.specs.Fit.{listing}
 use borrow.Author.Needs.{needs}
 use Rattle.harness.proofs.port_listing.Statement.{statement}
@@ -29,7 +30,7 @@ returns : tie.Need-returns
 returns c =
     let e = c .before .before .before .before .before .before .before .before .before .before in
     let a = e .args in
-    passed-on listingNumber listingLeft (c .before .before .before .before .compute-viable-tiles-at-position .ensures ∙ ap₂ (λ (w : World) (o : Offset). listing (a .pieces .now) (a .rows) (a .cols) (a .tiles .now) (a .count) w o) (c .before .before .before .before .before .before .world-at .ensures ∙ world-is (e .fits .row) (e .fits .col)) (c .before .before .before .before .before .offset-at .ensures ∙ offset-is (e .fits .down) (e .fits .across))) (c .before .before .listed .ensures)
+    passed-on listingNumber listingLeft (c .before .before .before .before .compute-viable-tiles-at-position .ensures ∙ ap₂ (λ (w : World) (o : Offset). listing flat (a .pieces .now) (a .rows) (a .cols) (a .tiles .now) (a .count) w o) (c .before .before .before .before .before .before .world-at .ensures ∙ world-is (e .fits .row) (e .fits .col)) (c .before .before .before .before .before .offset-at .ensures ∙ offset-is (e .fits .down) (e .fits .across))) (c .before .before .listed .ensures)
 
 pub port-listing-spec : {M : Type 1} → statement M
 port-listing-spec = tie.close (tie.spec world-at-requires offset-at-requires compute-viable-tiles-at-position-requires listed-requires same-length returns)

@@ -5,9 +5,8 @@ use Rattle.boundary.specs.Boundary.{writtenNumber}
 use mathlib.Core.Path.{_∙_}
 use Rattle.rules.specs.declared.World.{World}
 use Rattle.rules.specs.declared.Offset.{Offset}
-use Rattle.base.specs.Refusal.{refusal}
-use Rattle.rules.specs.Answers.{writtenAnswer}
-use Rattle.rules.specs.Board.{weightChecks, afterLower}
+use Rattle.rules.specs.Grid.{flat}
+use Rattle.rules.specs.Promises.{Lowers}
 use borrow.Author.Needs.{needs}
 use Rattle.harness.proofs.port_lower_weights.Statement.{statement}
 use Rattle.harness.proofs.port_lower_weights.Tie as tie
@@ -31,7 +30,8 @@ returns : tie.Need-returns
 returns c =
     let e = c .before .before .before .before .before .before .before .before in
     let a = e .args in
-    numbered-at writtenNumber (λ (w : World) (o : Offset). writtenAnswer (refusal (weightChecks (a .weights .now) (a .rows) (a .cols) w o))) (λ (w : World) (o : Offset). afterLower (a .weights .now) (a .rows) (a .cols) w o) (c .before .before .before .before .before .before .world-at .ensures ∙ world-is (e .fits .row) (e .fits .col)) (c .before .before .before .before .before .offset-at .ensures ∙ offset-is (e .fits .down) (e .fits .across)) (c .written .ensures) (c .before .before .before .revert-adjacency-weights .ensures)
+    numbered-at writtenNumber (λ (w : World) (o : Offset). Lowers flat (a .rows) (a .cols) w o (a .weights .now))
+    (c .before .before .before .before .before .before .world-at .ensures ∙ world-is (e .fits .row) (e .fits .col)) (c .before .before .before .before .before .offset-at .ensures ∙ offset-is (e .fits .down) (e .fits .across)) (c .written .ensures) (c .before .before .before .revert-adjacency-weights .ensures)
 
 pub port-lower-weights-spec : {M : Type 1} → statement M
 port-lower-weights-spec = tie.close (tie.spec world-at-requires offset-at-requires revert-adjacency-weights-requires written-requires same-length returns)

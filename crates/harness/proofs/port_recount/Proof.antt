@@ -5,9 +5,7 @@ use Rattle.boundary.specs.Boundary.{writtenNumber}
 use mathlib.Core.Path.{_∙_}
 use Rattle.rules.specs.declared.World.{World}
 use Rattle.rules.specs.declared.Offset.{Offset}
-use Rattle.base.specs.Refusal.{refusal}
-use Rattle.rules.specs.Answers.{writtenAnswer}
-use Rattle.rules.specs.Board.{recountChecks, afterRecount}
+use Rattle.rules.specs.Promises.{panel, Recounts}
 use borrow.Author.Needs.{needs}
 use Rattle.harness.proofs.port_recount.Statement.{statement}
 use Rattle.harness.proofs.port_recount.Tie as tie
@@ -31,7 +29,8 @@ returns : tie.Need-returns
 returns c =
     let e = c .before .before .before .before .before .before .before .before .before .before in
     let a = e .args in
-    numbered-at writtenNumber (λ (w : World) (o : Offset). writtenAnswer (refusal (recountChecks (a .counts .now) (a .pieces .now) (a .rows) (a .cols) (a .tiles .now) (a .count) w o))) (λ (w : World) (o : Offset). afterRecount (a .counts .now) (a .pieces .now) (a .rows) (a .cols) (a .tiles .now) (a .count) w o) (c .before .before .before .before .before .before .world-at .ensures ∙ world-is (e .fits .row) (e .fits .col)) (c .before .before .before .before .before .offset-at .ensures ∙ offset-is (e .fits .down) (e .fits .across)) (c .written .ensures) (c .before .before .before .recount-feasibility .ensures)
+    numbered-at writtenNumber (λ (w : World) (o : Offset). Recounts (panel (a .rows) (a .cols) (a .tiles .now) o) (a .count) w (a .pieces .now) (a .counts .now))
+    (c .before .before .before .before .before .before .world-at .ensures ∙ world-is (e .fits .row) (e .fits .col)) (c .before .before .before .before .before .offset-at .ensures ∙ offset-is (e .fits .down) (e .fits .across)) (c .written .ensures) (c .before .before .before .recount-feasibility .ensures)
 
 pub port-recount-spec : {M : Type 1} → statement M
 port-recount-spec = tie.close (tie.spec world-at-requires offset-at-requires recount-feasibility-requires written-requires same-length returns)
