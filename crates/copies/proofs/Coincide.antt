@@ -4,21 +4,15 @@ use Prim.Native.Nat.{ℕ}
 use mathlib.Core.Path.{_≡_}
 use mathlib.Core.List.{List}
 use lib.Ieee.{Float}
-use Rattle.base.specs.Refusal.{Gives, refusal}
 use Rattle.base.proofs.Chain.{gives-coincide}
-use Rattle.rules.specs.Answers.{writtenAnswer}
-use Rattle.rules.specs.Places.{wordCopyChecks, floatCopyChecks, afterWordCopy, afterFloatCopy}
+use Rattle.rules.specs.Promises.{CopiesWords, CopiesFloats}
 use Rattle.rules.specs.declared.Pads.{Pads}
 use Rattle.rules.specs.declared.Written.{Written}
 
-pub extend-array-2d-u32 : (plane target : List ℕ) (rows cols : ℕ) (p : Pads) {r s : Written} {u v : List ℕ}
-    → Gives (writtenAnswer (refusal (wordCopyChecks plane rows cols p target))) (afterWordCopy plane rows cols p target) r u
-    → Gives (writtenAnswer (refusal (wordCopyChecks plane rows cols p target))) (afterWordCopy plane rows cols p target) s v
-    → (r ≡ s) × (u ≡ v)
-extend-array-2d-u32 plane target rows cols p g h = gives-coincide g h
+pub extend-array-2d-u32 : (rows cols : ℕ) (p : Pads) (plane target : List ℕ) {r s : Written} {u v : List ℕ}
+    → CopiesWords rows cols p plane target r u → CopiesWords rows cols p plane target s v → (r ≡ s) × (u ≡ v)
+extend-array-2d-u32 rows cols p plane target g h = gives-coincide g h
 
-pub extend-array-2d-f64 : (plane target : List Float) (rows cols : ℕ) (p : Pads) {r s : Written} {u v : List Float}
-    → Gives (writtenAnswer (refusal (floatCopyChecks plane rows cols p target))) (afterFloatCopy plane rows cols p target) r u
-    → Gives (writtenAnswer (refusal (floatCopyChecks plane rows cols p target))) (afterFloatCopy plane rows cols p target) s v
-    → (r ≡ s) × (u ≡ v)
-extend-array-2d-f64 plane target rows cols p g h = gives-coincide g h
+pub extend-array-2d-f64 : (rows cols : ℕ) (p : Pads) (plane target : List Float) {r s : Written} {u v : List Float}
+    → CopiesFloats rows cols p plane target r u → CopiesFloats rows cols p plane target s v → (r ≡ s) × (u ≡ v)
+extend-array-2d-f64 rows cols p plane target g h = gives-coincide g h

@@ -1,8 +1,6 @@
 // Document 01, "Places": a plane is copied into a larger one, of which the new cells hold 1. The larger one is filled with 1 whole,
 // and then the rows are laid in it.
-ghost use Rattle.base.specs.Refusal.{Gives, refusal};
-ghost use Rattle.rules.specs.Answers.{writtenAnswer};
-ghost use Rattle.rules.specs.Places.{wordCopyChecks, floatCopyChecks, afterWordCopy, afterFloatCopy};
+ghost use Rattle.rules.specs.Promises.{before, after, CopiesWords, CopiesFloats};
 use copy_checks::copy_refused;
 use copy_floats::fill_f64;
 use copy_floats::lay_rows_f64;
@@ -19,7 +17,7 @@ pub fn extend_array_2d_u32(
     cols: usize,
     pads: Pads,
 ) -> Written
-    ensures { λ r. ⌜ Gives (writtenAnswer (refusal (wordCopyChecks (now (plane .entry)) rows cols pads (now (target .entry))))) (afterWordCopy (now (plane .entry)) rows cols pads (now (target .entry))) r (now (target .exit)) ⌝ }
+    ensures { λ a. ⌜ CopiesWords rows cols pads (before plane) (before target) a (after target) ⌝ }
 {
     let refused = copy_refused(rows, cols, pads, plane.len(), target.len());
     if refused != 0 {
@@ -38,7 +36,7 @@ pub fn extend_array_2d_f64(
     cols: usize,
     pads: Pads,
 ) -> Written
-    ensures { λ r. ⌜ Gives (writtenAnswer (refusal (floatCopyChecks (now (plane .entry)) rows cols pads (now (target .entry))))) (afterFloatCopy (now (plane .entry)) rows cols pads (now (target .entry))) r (now (target .exit)) ⌝ }
+    ensures { λ a. ⌜ CopiesFloats rows cols pads (before plane) (before target) a (after target) ⌝ }
 {
     let refused = copy_refused(rows, cols, pads, plane.len(), target.len());
     if refused != 0 {

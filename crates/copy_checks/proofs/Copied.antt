@@ -1,195 +1,148 @@
--- Laws of the copy, over any kind of entry: a row laid entry by entry, the rows laid one by one, and that rows laid in a plane which
--- holds the fill alone make the copy.
+-- The copy, over any kind of entry, by base's loops over a region: the two calls differ in no more than names.
+--     row-is     the loop along a part of a row that becomes the old plane's row, past its end
+--     laid-start, laid-turn, laid-done     the loop over the rows: before the first; one row; past the last
+--     next-row     where row i is read and where it is laid
+--     laid-copied     rows laid in a plane that holds the fill alone make the copy
 -- Assumes nothing.
 use Prim.Native.Nat.{ℕ, _+_, _-_, _*_, _/_, _%_, _<_, _≤_}
 use mathlib.Core.Path.{_≡_, refl, sym, _∙_, ap}
-use mathlib.Core.Bool.{_&&_}
-use mathlib.Core.List.{List}
-use mathlib.Core.Logic.{_⊎_, inl, inr, ⊎-elim}
+use mathlib.Core.Bool.{_&&_, and-assoc}
+use mathlib.Core.List.{List, _++_}
+use native.Mathlib.Nat.{add-zero, add-assoc, add-sub-cancel-left, mul-le-mul-right}
 use native.Mathlib.Omega.{arith}
 use lib.Dec.{leb, ltb}
-use lib.ListN.{length, getD, set}
-use borrow.Author.Tests.{le-leb, lt-leb, lt-ltb, le-ltb}
-use Rattle.base.specs.Counting.{pick}
+use lib.ListN.{length, getD, take, drop}
+use borrow.Author.Tests.{lt-ltb, ltb-true, leb-true}
 use Rattle.base.specs.Tables.{tab}
-use Rattle.base.proofs.Bools.{and-both, and-no-left, and-no-right, pick-yes, pick-no, by-test}
-use Rattle.base.proofs.Numbers.{cell-is, col-lt, rows-apart, lt-or-le}
-use Rattle.base.proofs.Tabled.{length-tab, getD-tab, tab-ext, is-tab}
-use Rattle.base.proofs.Swept.{swept, swept-none, swept-turn, swept-skip, swept-all}
+use Rattle.base.specs.Regions.{RegionFits, between, inside, overRegion}
+use Rattle.base.proofs.Bools.{by-test, same-test, pick-yes, pick-no}
+use Rattle.base.proofs.Numbers.{rows-apart}
+use Rattle.base.proofs.Tabled.{length-tab, getD-tab, is-tab}
+use Rattle.base.proofs.Sweep.{Sweep, sweep-all, length-part, part-at}
+use Rattle.base.proofs.Regions.{RowsDone, region-start, region-turn, region-done, region-is, row-room}
+use Rattle.rules.specs.Bounds.{maxBoardSide, maxCells}
+use Rattle.rules.specs.Grid.{cellAt, numberOf}
 use Rattle.rules.specs.Places.{newRows, newCols, copiedCell, copied}
 use Rattle.rules.specs.declared.Pads.{Pads}
-use Rattle.copy_checks.specs.Laid.{overCell, overlaid, laidCell, rowsLaid}
+use Rattle.checks.proofs.Sides.{board-rows, board-cols, few-cells}
+use Rattle.copy_checks.specs.Laid.{Sized, laidCell, rowsLaid}
 
-module _ {A : Type 0} (d : A) (plane l : List A) (at from n : ℕ) where
-  inside : (k : ℕ) → at ≤ k → k - at < n → overCell d plane at from n l k ≡ getD plane (from + (k - at)) d
-  unfolding overCell
-  inside k p q = pick-yes (leb at k && ltb (k - at) n) _ _ (and-both (leb at k) (ltb (k - at) n) (le-leb at k p) (lt-ltb (k - at) n q))
+-- ---- along a row
 
-  pub before-row : (k : ℕ) → k < at → overCell d plane at from n l k ≡ getD l k d
-  unfolding overCell
-  before-row k p = pick-no (leb at k && ltb (k - at) n) _ _ (and-no-left (leb at k) (ltb (k - at) n) (lt-leb at k p))
+pub row-is : {A : Type 0} {none : A} {part row w : List A} {j : ℕ} → Sweep none (λ k. getD row k none) part w j → length part ≡ length row
+    → length part ≤ j → w ≡ row
+row-is {A} {none} {part} {row} s e h = sweep-all s h ∙ sym (is-tab none row (length part) (λ k. getD row k none) (sym e) (λ k _. refl))
 
-  pub after-row : (k : ℕ) → at + n ≤ k → overCell d plane at from n l k ≡ getD l k d
-  unfolding overCell
-  after-row k p = pick-no (leb at k && ltb (k - at) n) _ _ (and-no-right (leb at k) (ltb (k - at) n) (le-ltb (k - at) n (omega arith)))
+-- ---- over the rows
 
-  -- a row laid entry by entry: before the first, one more, after the last
-  pub row-none : l ≡ swept d (at + 0) (overCell d plane at from n l) l
-  row-none =
-      swept-skip d l l 0 (at + 0) (overCell d plane at from n l) (omega arith) (λ k p q b. before-row k (omega arith))
-      (swept-none d (overCell d plane at from n l) l)
+-- the rows fit in the larger plane, the first of them in row left and each from column top on
+pub record RowsFit {A : Type 0} (plane larger : List A) (rows cols left top wide : ℕ) : Type 0 where
+  pub region : RegionFits (length larger) wide left (left + rows) top (top + cols)
+  pub held : length plane ≡ rows * cols
+  pub low : left + rows ≤ maxBoardSide
+  pub few : length larger ≤ maxCells
+  pub few-held : length plane ≤ maxCells
 
-  pub row-more : (w : List A) (j : ℕ) (v : A) → j < n → at + n ≤ length l → w ≡ swept d (at + j) (overCell d plane at from n l) l
-      → v ≡ getD plane (from + j) d → set w (at + j) v ≡ swept d (at + (j + 1)) (overCell d plane at from n l) l
-  row-more w j v p b e q =
-      let m : at + j + 1 ≡ at + (j + 1) = omega arith in
-      let i : at + j - at ≡ j = omega arith in
-      swept-turn d w l (at + j) (overCell d plane at from n l) v (omega arith) e
-      (q ∙ sym (inside (at + j) (omega arith) (omega arith) ∙ ap (λ (x : ℕ). getD plane (from + x) d) i))
-      ∙ ap (λ (x : ℕ). swept d x (overCell d plane at from n l) l) m
+-- and in w, which was the larger plane, the rows before row i are laid
+abbrev pub Laying : {A : Type 0} → A → List A → List A → ℕ → ℕ → ℕ → ℕ → ℕ → List A → ℕ → Type 0
+Laying none plane larger rows cols left top wide w i =
+    RowsFit plane larger rows cols left top wide
+    × RowsDone none (laidCell none plane cols left top) wide left (left + rows) top (top + cols) larger w (left + i)
 
-  pub row-end : (w : List A) (j : ℕ) → n ≤ j → j ≤ n → at + n ≤ length l → w ≡ swept d (at + j) (overCell d plane at from n l) l → w ≡ overlaid d plane at from n l
-  unfolding overlaid
-  row-end w j p q b e =
-      swept-skip d w l (at + j) (length l) (overCell d plane at from n l) (omega arith) (λ k x y z. after-row k (omega arith)) e
-      ∙ swept-all d (length l) (overCell d plane at from n l) l (omega arith)
+-- row i of the plane, and its part of w, lie inside these and have one length
+pub record NextRow {A : Type 0} (plane w : List A) (cols left top wide i : ℕ) : Type 0 where
+  pub read-in : i * cols + cols ≤ length plane
+  pub laid-in : numberOf wide (cellAt (left + i) top) + cols ≤ length w
+  pub one-length : let from = numberOf wide (cellAt (left + i) top) in
+      length (take (from + cols - from) (drop from w)) ≡ length (take (i * cols + cols - i * cols) (drop (i * cols) plane))
 
--- what entry k holds where the first rows are laid: the plane's entry inside, its own outside
-module _ {A : Type 0} (d : A) (plane l : List A) (rows cols left top wide k : ℕ) where
-  pub laid-in : left ≤ k / wide → k / wide - left < rows → top ≤ k % wide → k % wide - top < cols
-      → laidCell d plane rows cols left top wide l k ≡ getD plane ((k / wide - left) * cols + (k % wide - top)) d
-  unfolding laidCell
-  laid-in p q r s =
-      rw
-      (le-leb left (k / wide) p, lt-ltb (k / wide - left) rows q, le-leb top (k % wide) r, lt-ltb (k % wide - top) cols s)
+module _ {A : Type 0} {none : A} {plane larger : List A} {rows cols left top : ℕ} where
+  pub laid-start : {p : Pads} → Sized rows cols p (length plane) (length larger) → left + rows ≤ newRows rows p → top + cols ≤ newCols cols p
+      → Laying none plane larger rows cols left top (newCols cols p) larger 0
+  laid-start {p} s down across = (fit, rw add-zero (region-start none _ _ _ _ _ _ larger (fit .region)))
+    where
+      fit : RowsFit plane larger rows cols left top (newCols cols p)
+      fit =
+          record {
+            region =
+                record {
+                  wide = board-cols (newRows rows p) (newCols cols p) (s .new-sides) .0;
+                  down = omega arith;
+                  across = omega arith;
+                  ends = across;
+                  room = rw (s .room-is) (mul-le-mul-right (newCols cols p) down);
+                };
+            held = s .held-is;
+            low = omega (arith, board-rows (newRows rows p) (newCols cols p) (s .new-sides));
+            few = omega (arith, few-cells (newRows rows p) (newCols cols p) (s .new-sides), s .room-is);
+            few-held = omega (arith, few-cells rows cols (s .old-sides), s .held-is);
+          }
 
-  pub laid-above : k / wide < left → laidCell d plane rows cols left top wide l k ≡ getD l k d
-  unfolding laidCell
-  laid-above p = rw (lt-leb left (k / wide) p)
+  module _ {wide i : ℕ} {w : List A} (d : Laying none plane larger rows cols left top wide w i) where
+    pub next-row : i < rows → NextRow plane w cols left top wide i
+    next-row h =
+        record {
+          read-in = read-in;
+          laid-in = laid-in;
+          one-length = omega (arith, length-part w from (from + cols) laid-in, length-part plane (i * cols) (i * cols + cols) read-in);
+        }
+      where
+        from : ℕ
+        from = numberOf wide (cellAt (left + i) top)
 
-  pub laid-below : rows ≤ k / wide - left → laidCell d plane rows cols left top wide l k ≡ getD l k d
-  unfolding laidCell
-  laid-below p = by-test (leb left (k / wide)) (λ e. rw (e, le-ltb (k / wide - left) rows p)) (λ e. rw e)
+        read-in : i * cols + cols ≤ length plane
+        read-in = omega (arith, rows-apart cols h, d .0 .held)
 
-  pub laid-before : k % wide < top → laidCell d plane rows cols left top wide l k ≡ getD l k d
-  unfolding laidCell
-  laid-before p =
-      pick-no _ _ _
-      (and-no-left (leb left (k / wide) && ltb (k / wide - left) rows && leb top (k % wide)) (ltb (k % wide - top) cols)
-      (and-no-right (leb left (k / wide) && ltb (k / wide - left) rows) (leb top (k % wide)) (lt-leb top (k % wide) p)))
+        laid-in : from + cols ≤ length w
+        laid-in = omega (arith, row-room none _ _ _ _ _ _ larger (d .0 .region) (d .1) (omega arith), d .0 .region .ends)
 
-  pub laid-after : cols ≤ k % wide - top → laidCell d plane rows cols left top wide l k ≡ getD l k d
-  unfolding laidCell
-  laid-after p =
-      pick-no _ _ _
-      (and-no-right (leb left (k / wide) && ltb (k / wide - left) rows && leb top (k % wide)) (ltb (k % wide - top) cols)
-      (le-ltb (k % wide - top) cols p))
+    -- its part was lent to a function that left the row there
+    pub laid-turn : {ys : List A} → i < rows
+        → let from = numberOf wide (cellAt (left + i) top) in
+        let start = i * cols in
+        ys ≡ take (start + cols - start) (drop start plane)
+        → Laying none plane larger rows cols left top wide (take from w ++ (ys ++ drop (from + cols - from) (drop from w))) (i + 1)
+    laid-turn h e =
+        let from = numberOf wide (cellAt (left + i) top) in
+        let start = i * cols in
+        let row = take (start + cols - start) (drop start plane) in (
+          d .0,
+          rw (← add-assoc left i 1)
+              (region-turn none (laidCell none plane cols left top) _ _ _ _ _ larger (d .0 .region) (d .1) from (from + cols) refl (omega arith) (omega arith)
+              (e ∙ is-tab none row _ (λ j. getD row j none) (sym (next-row h .one-length)) (λ k _. refl))
+              (λ j b.
+              part-at none plane start (start + cols) j (omega arith)
+              ∙ ap (λ (k : ℕ). getD plane k none) (rw (add-sub-cancel-left left i, add-sub-cancel-left top j)))),
+        )
 
--- where row i of the plane is laid
-abbrev pub startOf : ℕ → ℕ → ℕ → ℕ → ℕ
-startOf i left top wide = (i + left) * wide + top
+    pub laid-done : rows ≤ i → w ≡ overRegion none (laidCell none plane cols left top) wide left (left + rows) top (top + cols) larger
+    laid-done h = region-done none _ _ _ _ _ _ larger (d .0 .region) (d .1) (omega arith)
 
-module _ {A : Type 0} (d : A) (plane l : List A) (cols left top wide : ℕ) where
-  -- no row is laid yet
-  pub laid-none : l ≡ rowsLaid d plane 0 cols left top wide l
-  unfolding rowsLaid
-  laid-none = is-tab d l (length l) (laidCell d plane 0 cols left top wide l) refl (λ k h. sym (laid-below d plane l 0 cols left top wide k (omega arith)))
+-- ---- the copy
 
-  pub laid-length : (rows : ℕ) → length (rowsLaid d plane rows cols left top wide l) ≡ length l
-  unfolding rowsLaid
-  laid-length rows = length-tab (length l) (laidCell d plane rows cols left top wide l)
+-- the rules' test of an old cell's place, as that of a region
+shifted : (from n x : ℕ) → (leb from x && ltb (x - from) n) ≡ between from (from + n) x
+shifted from n x =
+    by-test (leb from x)
+    (λ e.
+    rw e
+    (same-test (ltb (x - from) n) (ltb x (from + n))
+    (λ t. lt-ltb x (from + n) (omega (arith, ltb-true (x - from) n t)))
+    (λ t. lt-ltb (x - from) n (omega (arith, leb-true from x e, ltb-true x (from + n) t)))))
+    (λ e. rw e)
 
-  -- all rows are laid
-  pub laid-end : (w : List A) (rows i : ℕ) → rows ≤ i → i ≤ rows → w ≡ rowsLaid d plane i cols left top wide l → w ≡ rowsLaid d plane rows cols left top wide l
-  laid-end w rows i p q e = let m : i ≡ rows = omega arith in e ∙ ap (λ (n : ℕ). rowsLaid d plane n cols left top wide l) m
+pub old-place : (rows cols : ℕ) (p : Pads) (r c : ℕ)
+    → (leb (p .left) r && ltb (r - p .left) rows && leb (p .top) c && ltb (c - p .top) cols) ≡ inside (p .left) (p .left + rows) (p .top) (p .top + cols) r c
+old-place rows cols p r c =
+    and-assoc (leb (p .left) r && ltb (r - p .left) rows) (leb (p .top) c) (ltb (c - p .top) cols)
+    ∙ rw (shifted (p .left) rows r, shifted (p .top) cols c)
 
-  -- one row more leaves the other rows
-  other-row : (i k : ℕ) → (k / wide < i + left) ⊎ (i + left < k / wide)
-      → laidCell d plane i cols left top wide l k ≡ laidCell d plane (i + 1) cols left top wide l k
-  other-row i k o =
-      ⊎-elim (λ lt. laid-above d plane l i cols left top wide k lt ∙ sym (laid-above d plane l (i + 1) cols left top wide k lt))
-      (λ ge.
-      ⊎-elim (λ lt. laid-before d plane l i cols left top wide k lt ∙ sym (laid-before d plane l (i + 1) cols left top wide k lt))
-      (λ at.
-      ⊎-elim
-      (λ lt.
-      ⊎-elim
-      (λ u. laid-in d plane l i cols left top wide k ge (omega arith) at lt ∙ sym (laid-in d plane l (i + 1) cols left top wide k ge (omega arith) at lt))
-      (λ u. laid-below d plane l i cols left top wide k (omega arith) ∙ sym (laid-below d plane l (i + 1) cols left top wide k (omega arith)))
-      o)
-      (λ past. laid-after d plane l i cols left top wide k past ∙ sym (laid-after d plane l (i + 1) cols left top wide k past))
-      (lt-or-le (k % wide - top) cols))
-      (lt-or-le (k % wide) top))
-      (lt-or-le (k / wide) left)
-
-  -- the row i that is laid next, w the larger plane before it
-  module _ (i : ℕ) (w : List A) (fits : top + cols ≤ wide) (some : 0 < cols) (e : w ≡ rowsLaid d plane i cols left top wide l) where
-    long : length w ≡ length l
-    long = ap length e ∙ laid-length i
-
-    held : (k : ℕ) → k < length l → getD w k d ≡ laidCell d plane i cols left top wide l k
-    unfolding rowsLaid
-    held k h = ap (λ (x : List A). getD x k d) e ∙ getD-tab (length l) (laidCell d plane i cols left top wide l) k d h
-
-    -- an entry of another row, and one of the row itself
-    elsewhere : (k : ℕ) → k < length l → (k / wide < i + left) ⊎ (i + left < k / wide)
-        → overCell d plane (startOf i left top wide) (i * cols) cols w k ≡ laidCell d plane (i + 1) cols left top wide l k
-    elsewhere k h o =
-        let in-row : k % wide < wide = col-lt k wide (omega arith) in
-        let is : k / wide * wide + k % wide ≡ k = cell-is k wide in
-        ⊎-elim
-        (λ lt. before-row d plane w (startOf i left top wide) (i * cols) cols k (omega (arith, rows-apart wide lt)))
-        (λ gt. after-row d plane w (startOf i left top wide) (i * cols) cols k (omega (arith, rows-apart wide gt)))
-        o
-        ∙ held k h ∙ other-row i k o
-
-    within-row : (k : ℕ) → k < length l → k / wide ≡ i + left → overCell d plane (startOf i left top wide) (i * cols) cols w k ≡ laidCell d plane (i + 1) cols left top wide l k
-    within-row k h s =
-        let is : (i + left) * wide + k % wide ≡ k = ap (λ (r : ℕ). r * wide + k % wide) (sym s) ∙ cell-is k wide in
-        ⊎-elim
-        (λ lt.
-        before-row d plane w (startOf i left top wide) (i * cols) cols k (omega arith)
-        ∙ held k h ∙ laid-before d plane l i cols left top wide k lt ∙ sym (laid-before d plane l (i + 1) cols left top wide k lt))
-        (λ ge.
-        ⊎-elim
-        (λ lt.
-        let r : k / wide - left ≡ i = omega arith in
-        let m : i * cols ≡ (k / wide - left) * cols = ap (λ (x : ℕ). x * cols) (sym r) in
-        let n : i * cols + (k - startOf i left top wide) ≡ (k / wide - left) * cols + (k % wide - top) = omega arith in
-        inside d plane w (startOf i left top wide) (i * cols) cols k (omega arith) (omega arith)
-        ∙ ap (λ (x : ℕ). getD plane x d) n
-        ∙ sym (laid-in d plane l (i + 1) cols left top wide k (omega arith) (omega arith) ge lt))
-        (λ past.
-        after-row d plane w (startOf i left top wide) (i * cols) cols k (omega arith)
-        ∙ held k h ∙ laid-after d plane l i cols left top wide k past ∙ sym (laid-after d plane l (i + 1) cols left top wide k past))
-        (lt-or-le (k % wide - top) cols))
-        (lt-or-le (k % wide) top)
-
-    -- one row more is laid
-    pub laid-more : overlaid d plane (startOf i left top wide) (i * cols) cols w ≡ rowsLaid d plane (i + 1) cols left top wide l
-    unfolding overlaid rowsLaid
-    laid-more =
-        ap (λ (n : ℕ). tab n (overCell d plane (startOf i left top wide) (i * cols) cols w)) long
-        ∙ tab-ext (length l) (overCell d plane (startOf i left top wide) (i * cols) cols w) (laidCell d plane (i + 1) cols left top wide l)
-        (λ k h.
-        ⊎-elim (λ lt. elsewhere k h (inl lt))
-        (λ ge. ⊎-elim (λ gt. elsewhere k h (inr gt)) (λ le. within-row k h (omega arith)) (lt-or-le (i + left) (k / wide)))
-        (lt-or-le (k / wide) (i + left)))
-
--- rows laid in a plane of fill make the copy
-pub laid-copied : {A : Type 0} (d fill : A) (plane w l : List A) (rows cols : ℕ) (p : Pads)
-    → length l ≡ newRows rows p * newCols cols p → w ≡ tab (length l) (λ k. fill)
-    → rowsLaid d plane rows cols (p .left) (p .top) (newCols cols p) w ≡ copied d fill plane rows cols p
-unfolding rowsLaid laidCell copied copiedCell
-laid-copied {A} d fill plane w l rows cols p e q =
-    let n : length w ≡ newRows rows p * newCols cols p = ap length q ∙ length-tab (length l) (λ k. fill) ∙ e in
-    ap (λ (m : ℕ). tab m (laidCell d plane rows cols (p .left) (p .top) (newCols cols p) w)) n
-    ∙ tab-ext (newRows rows p * newCols cols p) (laidCell d plane rows cols (p .left) (p .top) (newCols cols p) w)
-    (λ k. copiedCell d fill plane rows cols p (k / newCols cols p) (k % newCols cols p))
-    (λ k h.
-    ap
-    (λ (x : A).
-    pick (leb (p .left) (k / newCols cols p) && ltb (k / newCols cols p - p .left) rows && leb (p .top) (k % newCols cols p) && ltb (k % newCols cols p - p .top) cols)
-    (getD plane ((k / newCols cols p - p .left) * cols + (k % newCols cols p - p .top)) d)
-    x)
-    (ap (λ (x : List A). getD x k d) q ∙ getD-tab (length l) (λ j. fill) k d (omega (arith, n, ap length q, length-tab (length l) (λ (j : ℕ). fill)))))
+pub laid-copied : {A : Type 0} (none fill : A) (plane : List A) (rows cols : ℕ) (p : Pads)
+    → rowsLaid none plane rows cols p (tab (newRows rows p * newCols cols p) (λ k. fill)) ≡ copied none fill plane rows cols p
+unfolding rowsLaid copied copiedCell
+laid-copied none fill plane rows cols p =
+    let n = newRows rows p * newCols cols p in
+    region-is none _ (newCols cols p) _ _ _ _ (tab n (λ k. fill)) (λ k. copiedCell none fill plane rows cols p (k / newCols cols p) (k % newCols cols p))
+    (λ k h t. pick-yes _ _ _ (old-place rows cols p _ _ ∙ t))
+    (λ k h t. pick-no _ _ _ (old-place rows cols p _ _ ∙ t) ∙ sym (getD-tab n (λ j. fill) k none (omega (arith, length-tab n (λ (j : ℕ). fill)))))
+    ∙ rw length-tab

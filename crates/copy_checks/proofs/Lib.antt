@@ -1,2 +1,2 @@
-pub mod Copied
 pub mod Sides
+pub mod Copied

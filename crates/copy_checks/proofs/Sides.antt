@@ -1,22 +1,17 @@
--- Laws of the sides that pads make, and of where a row is laid.
+-- Laws of the sides that pads make: a side compared with its bounds, a length compared with a number of cells, and what the checks give.
 -- Assumes nothing.
-use Prim.Native.Nat.{ℕ, _+_, _*_, _<_, _≤_}
-use mathlib.Core.Path.{_≡_, refl, sym}
-use mathlib.Core.Bool.{false}
-use native.Mathlib.Omega.{arith}
-use lib.Dec.{leb}
-use borrow.Author.Tests.{lt-leb, le-leb, eqb-true}
+use Prim.Native.Nat.{ℕ, _*_, _<_, _≤_}
+use mathlib.Core.Path.{_≡_, refl, sym, _∙_}
+use mathlib.Core.Bool.{true, false}
+use lib.Dec.{leb, eqb}
+use borrow.Author.Tests.{lt-leb, le-leb, eqb-true, eq-eqb, ne-eqb}
 use Rattle.base.specs.Counting.{within}
 use Rattle.base.specs.Refusal.{refusal}
 use Rattle.base.proofs.Bools.{and-no-right, and-go, and-stop}
-use Rattle.base.proofs.Chain.{passed}
-use Rattle.base.proofs.Numbers.{rows-apart}
-use Rattle.checks.proofs.Sides.{board-rows, board-cols, few-cells}
-use Rattle.rules.specs.Tests.{boardSides}
+use Rattle.base.proofs.Chain.{all-pass}
 use Rattle.rules.specs.Places.{newRows, newCols}
 use Rattle.rules.specs.declared.Pads.{Pads}
 use Rattle.copy_checks.specs.Laid.{sizeChecks, Sized}
-use Rattle.copy_checks.proofs.Copied.{startOf}
 
 -- what the comparisons of a number with a range leave
 module _ (lo hi n : ℕ) where
@@ -32,45 +27,22 @@ module _ (lo hi n : ℕ) where
   unfolding within
   is-within h = and-go (leb lo n) (leb n hi) (le-leb lo n h) refl
 
+-- what the comparison of a length with a number of cells leaves, which a function worked out
+pub other-length : {held m : ℕ} (n : ℕ) → (held ≡ m → ⊥) → m ≡ n → eqb held n ≡ false
+other-length {held} {m} n h e = ne-eqb held n (λ q. h (q ∙ sym e))
+
+pub this-length : {held m : ℕ} (n : ℕ) → held ≡ m → m ≡ n → eqb held n ≡ true
+this-length {held} {m} n h e = eq-eqb held n (h ∙ e)
+
+pub ruleset lengths = (other-length, this-length)
+
 -- no check that fails: the planes have their lengths
 pub sized : (rows cols : ℕ) (p : Pads) (held room : ℕ) → refusal (sizeChecks rows cols p held room) ≡ 0 → Sized rows cols p held room
 sized rows cols p held room e =
-    let a = passed 0 (boardSides rows cols) _ e in
-    let b = passed 0 (boardSides (newRows rows p) (newCols cols p)) _ (a .1) in
-    let c = passed 1 _ _ (b .1) in
-    let d = passed 1 _ _ (c .1) in
+    let h = all-pass (sizeChecks rows cols p held room) refl e in
     record {
-      old-sides = a .0;
-      new-sides = b .0;
-      held-is = eqb-true held (rows * cols) (c .0);
-      room-is = eqb-true room (newRows rows p * newCols cols p) (d .0);
-    }
-
--- row i lies inside both planes
-pub record RowFits (i cols left top wide held room : ℕ) : Type 0 where
-  pub rooted : i + left ≤ 64
-  pub some : 0 < cols
-  pub inner : top + cols ≤ wide
-  pub laid-in : startOf i left top wide + cols ≤ room
-  pub read-in : i * cols + cols ≤ held
-  pub few : room ≤ 4096
-  pub few-read : held ≤ 4096
-
-pub row-fits : (rows cols : ℕ) (p : Pads) (held room i : ℕ) → Sized rows cols p held room → i < rows
-    → RowFits i cols (p .left) (p .top) (newCols cols p) held room
-row-fits rows cols p held room i s h =
-    let tall : newRows rows p ≤ 64 = board-rows (newRows rows p) (newCols cols p) (s .new-sides) .1 in
-    let below : i + p .left < newRows rows p = omega arith in
-    let up = rows-apart (newCols cols p) below in
-    let on = rows-apart cols h in
-    let held-is = s .held-is in
-    let room-is = s .room-is in
-    record {
-      rooted = omega arith;
-      some = board-cols rows cols (s .old-sides) .0;
-      inner = omega arith;
-      laid-in = omega arith;
-      read-in = omega arith;
-      few = omega (arith, few-cells (newRows rows p) (newCols cols p) (s .new-sides));
-      few-read = omega (arith, few-cells rows cols (s .old-sides));
+      old-sides = search;
+      new-sides = search;
+      held-is = eqb-true held (rows * cols) (search);
+      room-is = eqb-true room (newRows rows p * newCols cols p) (search);
     }

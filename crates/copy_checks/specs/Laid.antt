@@ -1,15 +1,15 @@
--- The checks of a copy that ask for sides and lengths; the copy a row at a time; what the functions that lay rows lean on.
-use Prim.Native.Nat.{ℕ, _+_, _-_, _*_, _/_, _%_}
+-- The checks of a copy that ask for sides and lengths, what they give, and the rows of a plane laid in a larger one.
+use Prim.Native.Nat.{ℕ, _+_, _-_, _*_}
 use mathlib.Core.Path.{_≡_}
-use mathlib.Core.Bool.{true, _&&_}
+use mathlib.Core.Bool.{true}
 use mathlib.Core.List.{List}
-use lib.Dec.{leb, ltb, eqb}
-use lib.ListN.{length, getD}
-use Rattle.base.specs.Counting.{pick}
-use Rattle.base.specs.Tables.{tab}
-use Rattle.base.specs.Refusal.{Checks, accepted, _unless_or_}
+use lib.Dec.{eqb}
+use lib.ListN.{getD}
+use Rattle.base.specs.Regions.{overRegion}
+use Rattle.base.specs.Refusal.{Checks, _unless_, _then_}
 use Rattle.rules.specs.Bounds.{SHAPE, LENGTH}
 use Rattle.rules.specs.Tests.{boardSides}
+use Rattle.rules.specs.Grid.{cellAt, numberOf}
 use Rattle.rules.specs.Places.{newRows, newCols}
 use Rattle.rules.specs.declared.Pads.{Pads}
 
@@ -17,30 +17,22 @@ use Rattle.rules.specs.declared.Pads.{Pads}
 abbrev pub sizeChecks : ℕ → ℕ → Pads → ℕ → ℕ → Checks
 sizeChecks rows cols p held room =
     SHAPE unless boardSides rows cols
-    or SHAPE unless boardSides (newRows rows p) (newCols cols p)
-    or LENGTH unless eqb held (rows * cols)
-    or LENGTH unless eqb room (newRows rows p * newCols cols p)
-    or accepted
+    then SHAPE unless boardSides (newRows rows p) (newCols cols p)
+    then LENGTH unless eqb held (rows * cols)
+    then LENGTH unless eqb room (newRows rows p * newCols cols p)
 
--- entry k of l where the n entries from `at` on are those of the plane from `from` on
-unfoldable pub overCell : {A : Type 0} → A → List A → ℕ → ℕ → ℕ → List A → ℕ → A
-overCell none plane at from n l k = pick (leb at k && ltb (k - at) n) (getD plane (from + (k - at)) none) (getD l k none)
-
-unfoldable pub overlaid : {A : Type 0} → A → List A → ℕ → ℕ → ℕ → List A → List A
-overlaid none plane at from n l = tab (length l) (overCell none plane at from n l)
-
--- entry k of l, which is wide columns wide, where the first rows of the plane are laid: old cell (i, j) at (i + left, j + top)
-unfoldable pub laidCell : {A : Type 0} → A → List A → ℕ → ℕ → ℕ → ℕ → ℕ → List A → ℕ → A
-laidCell none plane rows cols left top wide l k =
-    pick (leb left (k / wide) && ltb (k / wide - left) rows && leb top (k % wide) && ltb (k % wide - top) cols)
-    (getD plane ((k / wide - left) * cols + (k % wide - top)) none)
-    (getD l k none)
-
-unfoldable pub rowsLaid : {A : Type 0} → A → List A → ℕ → ℕ → ℕ → ℕ → ℕ → List A → List A
-rowsLaid none plane rows cols left top wide l = tab (length l) (laidCell none plane rows cols left top wide l)
-
+-- what they give, and the functions that lay rows lean on
 pub record Sized (rows cols : ℕ) (p : Pads) (held room : ℕ) : Type 0 where
   pub old-sides : boardSides rows cols ≡ true
   pub new-sides : boardSides (newRows rows p) (newCols cols p) ≡ true
   pub held-is : held ≡ rows * cols
   pub room-is : room ≡ newRows rows p * newCols cols p
+
+-- what the cell (r, c) of a larger plane comes to hold, whatever it held: old cell (i, j) is laid at (i + left, j + top)
+abbrev pub laidCell : {A : Type 0} → A → List A → ℕ → ℕ → ℕ → ℕ → ℕ → A → A
+laidCell none plane cols left top r c held = getD plane (numberOf cols (cellAt (r - left) (c - top))) none
+
+-- the larger plane where the rows are laid
+unfoldable pub rowsLaid : {A : Type 0} → A → List A → ℕ → ℕ → Pads → List A → List A
+rowsLaid none plane rows cols p larger =
+    overRegion none (laidCell none plane cols (p .left) (p .top)) (newCols cols p) (p .left) (p .left + rows) (p .top) (p .top + cols) larger

@@ -1,16 +1,15 @@
-// The larger plane of a copy, of f64: filled with 1.0, and the rows of the old plane laid in it. Both loops are plain runs of stores.
+// The larger plane of a copy, of f64: filled with 1.0, and the rows of the old plane laid in it, each in its part of a row of the larger.
 ghost use mathlib.Core.Path.{_≡_};
-ghost use Prim.Native.Nat.{_+_, _≤_};
 ghost use lib.ListN.{length};
 ghost use lib.Ieee.{nan};
 ghost use Rattle.base.specs.Tables.{tab};
-ghost use Rattle.rules.specs.Places.{newCols};
 ghost use Rattle.rules.specs.Floats.{one64};
-ghost use Rattle.copy_checks.specs.Laid.{overlaid, rowsLaid, Sized};
+ghost use Rattle.rules.specs.Promises.{before, after};
+ghost use Rattle.copy_checks.specs.Laid.{rowsLaid, Sized};
 use rules::Pads;
 
 pub fn fill_f64(target: &mut [f64])
-    ensures { λ _. ⌜ now (target .exit) ≡ tab (length (now (target .entry))) (λ k. one64) ⌝ }
+    ensures { λ _. ⌜ after target ≡ tab (length (before target)) (λ k. one64) ⌝ }
 {
     let mut k = 0;
     while k < target.len() {
@@ -19,27 +18,31 @@ pub fn fill_f64(target: &mut [f64])
     }
 }
 
-fn lay_row_f64(target: &mut [f64], plane: &[f64], at: usize, from: usize, n: usize)
-    requires { ⌜ (at + n ≤ length (now target)) × (from + n ≤ length (now plane)) ⌝ }
-    ensures { λ _. ⌜ now (target .exit) ≡ overlaid nan (now (plane .entry)) at from n (now (target .entry)) ⌝ }
+fn lay_row_f64(part: &mut [f64], row: &[f64])
+    requires { ⌜ length (now part) ≡ length (now row) ⌝ }
+    ensures { λ _. ⌜ after part ≡ before row ⌝ }
 {
     let mut j = 0;
-    while j < n {
-        target[at + j] = plane[from + j];
+    while j < part.len() {
+        part[j] = row[j];
         j += 1;
     }
 }
 
 pub fn lay_rows_f64(target: &mut [f64], plane: &[f64], rows: usize, cols: usize, pads: Pads)
     requires { ⌜ Sized rows cols pads (length (now plane)) (length (now target)) ⌝ }
-    ensures { λ _. ⌜ now (target .exit) ≡ rowsLaid nan (now (plane .entry)) rows cols (pads .left) (pads .top) (newCols cols pads) (now (target .entry)) ⌝ }
+    ensures { λ _. ⌜ after target ≡ rowsLaid nan (before plane) rows cols pads (before target) ⌝ }
 {
     let left = pads.left;
     let top = pads.top;
-    let wide = top + cols + pads.bottom;
+    let wide = pads.top + cols + pads.bottom;
     let mut i = 0;
     while i < rows {
-        lay_row_f64(target, plane, (i + left) * wide + top, i * cols, cols);
+        let from = (left + i) * wide + top;
+        let to = from + cols;
+        let start = i * cols;
+        let end = start + cols;
+        lay_row_f64(&mut target[from..to], &plane[start..end]);
         i += 1;
     }
 }

@@ -1,44 +1,34 @@
--- `copy_floats::lay_row_f64` meets its contract. The loop's invariant: up to the place that is written next the target is laid.
--- Assumes nothing.
-use Prim.Native.Nat.{_+_, _-_, _≤_}
-use mathlib.Core.Path.{_≡_, refl}
-use borrow.Author.Needs.{needs}
-use native.Mathlib.Omega.{arith}
-use lib.ListN.{length, length-set}
+-- `copy_floats::lay_row_f64` meets its contract: a sweep along the part, in which each entry becomes the row's. Assumes nothing.
+use Prim.Native.Nat.{_-_}
+use mathlib.Core.Path.{refl}
+use lib.ListN.{length, getD}
 use lib.Ieee.{nan}
-use Rattle.base.proofs.Swept.{swept}
-use Rattle.copy_checks.specs.Laid.{overCell}
-use Rattle.copy_checks.proofs.Copied.{row-none, row-more, row-end}
+use borrow.Author.Needs.{needs}
+use Rattle.base.proofs.Sweep.{Sweep, sweep-none, sweep-turn}
+use Rattle.copy_checks.proofs.Copied.{row-is}
 use Rattle.copy_floats.proofs.lay_row_f64.Statement.{statement}
 use Rattle.copy_floats.proofs.lay_row_f64.Tie as tie
 
 abbrev Inv-loop : tie.InvT-loop
-Inv-loop target₀ plane at from n j₀ target j =
-    (length target ≡ length target₀) × (j ≤ n) × (target ≡ swept nan (at + j) (overCell nan plane at from n target₀) target₀)
+Inv-loop part₀ row j₀ part j = Sweep nan (λ k. getD row k nan) part₀ part j
 
 abbrev μ-loop : tie.MeasureT-loop
-μ-loop target₀ plane at from n j₀ target j = n - j
+μ-loop part₀ row j₀ part j = length part₀ - j
 
 loop-holds : tie.Need-loop-holds Inv-loop μ-loop
-loop-holds c = (refl, search needs, row-none nan _ _ _ _ _)
+loop-holds c = sweep-none
 
-add-target : tie.Need-add-target Inv-loop μ-loop
-add-target c = search needs
+mul-part : tie.Need-mul-part Inv-loop μ-loop
+mul-part c = search needs
 
-mul-target : tie.Need-mul-target Inv-loop μ-loop
-mul-target c = search needs
+shared-slice-read-part : tie.Need-shared-slice-read-part Inv-loop μ-loop
+shared-slice-read-part c = search needs
 
-shared-slice-read-target : tie.Need-shared-slice-read-target Inv-loop μ-loop
-shared-slice-read-target c = search needs
+mul-part-2 : tie.Need-mul-part-2 Inv-loop μ-loop
+mul-part-2 c = search needs
 
-add-target-2 : tie.Need-add-target-2 Inv-loop μ-loop
-add-target-2 c = search needs
-
-mul-target-2 : tie.Need-mul-target-2 Inv-loop μ-loop
-mul-target-2 c = search needs
-
-slice-write-target : tie.Need-slice-write-target Inv-loop μ-loop
-slice-write-target c = search needs
+slice-write-part : tie.Need-slice-write-part Inv-loop μ-loop
+slice-write-part c = search needs
 
 add-j : tie.Need-add-j Inv-loop μ-loop
 add-j c = search needs
@@ -47,15 +37,13 @@ loop-less : tie.Need-loop-less Inv-loop μ-loop
 loop-less c = search needs
 
 loop-again : tie.Need-loop-again Inv-loop μ-loop
-loop-again c =
-    let s = c .before .before .before in
-    (simp length-set (omega arith), omega arith, row-more nan _ _ _ _ _ _ _ _ (omega arith) (s .pre .0) (c .before .before .loop .inv .2) refl)
+loop-again c = sweep-turn (c .before .before .loop .inv) (search needs) refl
 
 same-length : tie.Need-same-length Inv-loop μ-loop
 same-length c = search needs
 
 returns : tie.Need-returns Inv-loop μ-loop
-returns c = row-end nan _ _ _ _ _ _ (c .before .loop .j) (omega arith) (omega arith) (c .before .before .pre .0) (c .before .loop .inv .2)
+returns c = row-is (c .before .loop .inv) (search needs) (search needs)
 
 pub lay-row-f64-spec : {M : Type 1} → statement M
 lay-row-f64-spec =
@@ -64,12 +52,10 @@ lay-row-f64-spec =
     Inv-loop
     μ-loop
     loop-holds
-    add-target
-    mul-target
-    shared-slice-read-target
-    add-target-2
-    mul-target-2
-    slice-write-target
+    mul-part
+    shared-slice-read-part
+    mul-part-2
+    slice-write-part
     add-j
     loop-less
     loop-again

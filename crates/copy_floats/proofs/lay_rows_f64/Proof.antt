@@ -1,22 +1,18 @@
--- `copy_floats::lay_rows_f64` meets its contract. The loop's invariant: the first i rows are laid.
+-- `copy_floats::lay_rows_f64` meets its contract: a loop over a region of the larger plane, in which each row's part becomes that row.
 -- Assumes nothing.
-use borrow.Author.Needs.{needs}
 use Prim.Native.Nat.{_-_, _≤_}
-use mathlib.Core.Path.{_≡_, refl, _∙_, ap}
 use native.Mathlib.Omega.{arith}
-use lib.ListN.{length}
 use lib.Ieee.{nan}
+use borrow.Author.Needs.{needs}
 use Rattle.checks.proofs.Sides.{board-cols}
 use Rattle.rules.specs.Places.{newCols}
 use Rattle.copy_checks.specs.Laid.{rowsLaid}
-use Rattle.copy_checks.proofs.Copied.{laid-none, laid-more, laid-length, laid-end}
-use Rattle.copy_checks.proofs.Sides.{RowFits, row-fits}
+use Rattle.copy_checks.proofs.Copied.{Laying, laid-start, NextRow, next-row, laid-turn, laid-done}
 use Rattle.copy_floats.proofs.lay_rows_f64.Statement.{statement}
 use Rattle.copy_floats.proofs.lay_rows_f64.Tie as tie
 
 abbrev Inv-loop : tie.InvT-loop
-Inv-loop target₀ plane rows cols left top wide i₀ target i =
-    (length target ≡ length target₀) × (i ≤ rows) × (target ≡ rowsLaid nan plane i cols left top wide target₀)
+Inv-loop target₀ plane rows cols left top wide i₀ target i = Laying nan plane target₀ rows cols left top wide target i
 
 abbrev μ-loop : tie.MeasureT-loop
 μ-loop target₀ plane rows cols left top wide i₀ target i = rows - i
@@ -25,34 +21,63 @@ wide : (c : tie.Start Inv-loop μ-loop) → newCols (c .args .cols) (c .args .pa
 wide c = board-cols _ _ (c .pre .new-sides) .1
 
 add-wide : tie.Need-add-wide Inv-loop μ-loop
-add-wide c = record { fits = omega (arith, wide (c .before .before)) }
+add-wide c = record { fits = omega (arith, wide (c .before .before .before)) }
 
 add-wide-2 : tie.Need-add-wide-2 Inv-loop μ-loop
-add-wide-2 c = record { fits = omega (arith, wide (c .before .before .before)) }
+add-wide-2 c = record { fits = omega (arith, wide (c .before .before .before .before)) }
 
 loop-holds : tie.Need-loop-holds Inv-loop μ-loop
-loop-holds c = (refl, search needs, laid-none nan _ _ _ _ _ _)
+loop-holds c = laid-start (c .before .before .before .before .pre) (omega arith) (omega arith)
 
-fits : (c : tie.In-loop Inv-loop μ-loop)
-    → let s = c .before .before .before .before .before in
-    let a = s .args in
-    RowFits (c .before .loop .i) (a .cols) (a .pads .left) (a .pads .top) (newCols (a .cols) (a .pads)) (length (a .plane .now)) (length (a .target .now))
-fits c = row-fits _ _ _ _ _ _ (c .before .before .before .before .before .pre) (c .loop-test .taken)
+next : (c : tie.In-loop Inv-loop μ-loop)
+    → let a = c .before .before .before .before .before .before .args in
+    NextRow (a .plane .now) (c .before .loop .target) (a .cols) (a .pads .left) (a .pads .top) (newCols (a .cols) (a .pads)) (c .before .loop .i)
+next c = next-row (c .before .loop .inv) (c .loop-test .taken)
 
-add-lay-row-f64 : tie.Need-add-lay-row-f64 Inv-loop μ-loop
-add-lay-row-f64 c = record { fits = omega (arith, fits (c .before)) }
+add-from : tie.Need-add-from Inv-loop μ-loop
+add-from c = search needs
+
+mul-from : tie.Need-mul-from Inv-loop μ-loop
+mul-from c = record { fits = omega (arith, next c) }
+
+add-from-2 : tie.Need-add-from-2 Inv-loop μ-loop
+add-from-2 c = record { fits = omega (arith, next c) }
+
+add-to : tie.Need-add-to Inv-loop μ-loop
+add-to c = record { fits = omega (arith, next c) }
+
+mul-start : tie.Need-mul-start Inv-loop μ-loop
+mul-start c = record { fits = omega (arith, next c) }
+
+add-end : tie.Need-add-end Inv-loop μ-loop
+add-end c = record { fits = omega (arith, next c) }
 
 mul-lay-row-f64 : tie.Need-mul-lay-row-f64 Inv-loop μ-loop
-mul-lay-row-f64 c = record { fits = omega (arith, fits (c .before)) }
+mul-lay-row-f64 c = record { fits = omega (arith, next c) }
 
-add-lay-row-f64-2 : tie.Need-add-lay-row-f64-2 Inv-loop μ-loop
-add-lay-row-f64-2 c = record { fits = omega (arith, fits (c .before)) }
+sub-lay-row-f64 : tie.Need-sub-lay-row-f64 Inv-loop μ-loop
+sub-lay-row-f64 c = search needs
+
+part-lay-row-f64-start : tie.Need-part-lay-row-f64-start Inv-loop μ-loop
+part-lay-row-f64-start c = search needs
+
+part-lay-row-f64-end : tie.Need-part-lay-row-f64-end Inv-loop μ-loop
+part-lay-row-f64-end c = next c .laid-in
 
 mul-lay-row-f64-2 : tie.Need-mul-lay-row-f64-2 Inv-loop μ-loop
-mul-lay-row-f64-2 c = record { fits = omega (arith, fits (c .before)) }
+mul-lay-row-f64-2 c = record { fits = omega (arith, next (c .before)) }
+
+sub-lay-row-f64-2 : tie.Need-sub-lay-row-f64-2 Inv-loop μ-loop
+sub-lay-row-f64-2 c = search needs
+
+part-lay-row-f64-start-2 : tie.Need-part-lay-row-f64-start-2 Inv-loop μ-loop
+part-lay-row-f64-start-2 c = search needs
+
+part-lay-row-f64-end-2 : tie.Need-part-lay-row-f64-end-2 Inv-loop μ-loop
+part-lay-row-f64-end-2 c = next (c .before) .read-in
 
 lay-row-f64-requires : tie.Need-lay-row-f64-requires Inv-loop μ-loop
-lay-row-f64-requires c κs = (omega (arith, fits (c .before)), fits (c .before) .read-in)
+lay-row-f64-requires c κs = next (c .before .before) .one-length
 
 add-i : tie.Need-add-i Inv-loop μ-loop
 add-i c = search needs
@@ -62,16 +87,16 @@ loop-less c = search needs
 
 loop-again : tie.Need-loop-again Inv-loop μ-loop
 loop-again c =
-    let d = c .before .before .before in
-    let f = fits (d .before) in
-    let e = c .before .before .lay-row-f64 .ensures ∙ laid-more nan _ _ _ _ _ _ _ _ (f .inner) (f .some) (d .before .before .loop .inv .2) in
-    (ap length e ∙ laid-length nan _ _ _ _ _ _ _, omega arith, e)
+    let k = c .before .before in
+    let d = k .before .before .before in
+    laid-turn (d .before .loop .inv) (d .loop-test .taken) (k .lay-row-f64 .ensures)
 
 same-length : tie.Need-same-length Inv-loop μ-loop
 same-length c = search needs
 
 returns : tie.Need-returns Inv-loop μ-loop
-returns c = laid-end nan _ _ _ _ _ _ _ _ (c .before .loop .i) (omega arith) (omega arith) (c .before .loop .inv .2)
+unfolding rowsLaid
+returns c = laid-done (c .before .loop .inv) (c .loop-test .left)
 
 pub lay-rows-f64-spec : {M : Type 1} → statement M
 lay-rows-f64-spec =
@@ -82,10 +107,20 @@ lay-rows-f64-spec =
     add-wide
     add-wide-2
     loop-holds
-    add-lay-row-f64
+    add-from
+    mul-from
+    add-from-2
+    add-to
+    mul-start
+    add-end
     mul-lay-row-f64
-    add-lay-row-f64-2
+    sub-lay-row-f64
+    part-lay-row-f64-start
+    part-lay-row-f64-end
     mul-lay-row-f64-2
+    sub-lay-row-f64-2
+    part-lay-row-f64-start-2
+    part-lay-row-f64-end-2
     lay-row-f64-requires
     add-i
     loop-less

@@ -1,21 +1,17 @@
--- `copy_words::lay_rows_u32` meets its contract. The loop's invariant: the first i rows are laid.
+-- `copy_words::lay_rows_u32` meets its contract: a loop over a region of the larger plane, in which each row's part becomes that row.
 -- Assumes nothing.
-use borrow.Author.Needs.{needs}
 use Prim.Native.Nat.{_-_, _≤_}
-use mathlib.Core.Path.{_≡_, refl, _∙_, ap}
 use native.Mathlib.Omega.{arith}
-use lib.ListN.{length}
+use borrow.Author.Needs.{needs}
 use Rattle.checks.proofs.Sides.{board-cols}
 use Rattle.rules.specs.Places.{newCols}
 use Rattle.copy_checks.specs.Laid.{rowsLaid}
-use Rattle.copy_checks.proofs.Copied.{laid-none, laid-more, laid-length, laid-end}
-use Rattle.copy_checks.proofs.Sides.{RowFits, row-fits}
+use Rattle.copy_checks.proofs.Copied.{Laying, laid-start, NextRow, next-row, laid-turn, laid-done}
 use Rattle.copy_words.proofs.lay_rows_u32.Statement.{statement}
 use Rattle.copy_words.proofs.lay_rows_u32.Tie as tie
 
 abbrev Inv-loop : tie.InvT-loop
-Inv-loop target₀ plane rows cols left top wide i₀ target i =
-    (length target ≡ length target₀) × (i ≤ rows) × (target ≡ rowsLaid 0 plane i cols left top wide target₀)
+Inv-loop target₀ plane rows cols left top wide i₀ target i = Laying 0 plane target₀ rows cols left top wide target i
 
 abbrev μ-loop : tie.MeasureT-loop
 μ-loop target₀ plane rows cols left top wide i₀ target i = rows - i
@@ -24,34 +20,63 @@ wide : (c : tie.Start Inv-loop μ-loop) → newCols (c .args .cols) (c .args .pa
 wide c = board-cols _ _ (c .pre .new-sides) .1
 
 add-wide : tie.Need-add-wide Inv-loop μ-loop
-add-wide c = record { fits = omega (arith, wide (c .before .before)) }
+add-wide c = record { fits = omega (arith, wide (c .before .before .before)) }
 
 add-wide-2 : tie.Need-add-wide-2 Inv-loop μ-loop
-add-wide-2 c = record { fits = omega (arith, wide (c .before .before .before)) }
+add-wide-2 c = record { fits = omega (arith, wide (c .before .before .before .before)) }
 
 loop-holds : tie.Need-loop-holds Inv-loop μ-loop
-loop-holds c = (refl, search needs, laid-none 0 _ _ _ _ _ _)
+loop-holds c = laid-start (c .before .before .before .before .pre) (omega arith) (omega arith)
 
-fits : (c : tie.In-loop Inv-loop μ-loop)
-    → let s = c .before .before .before .before .before in
-    let a = s .args in
-    RowFits (c .before .loop .i) (a .cols) (a .pads .left) (a .pads .top) (newCols (a .cols) (a .pads)) (length (a .plane .now)) (length (a .target .now))
-fits c = row-fits _ _ _ _ _ _ (c .before .before .before .before .before .pre) (c .loop-test .taken)
+next : (c : tie.In-loop Inv-loop μ-loop)
+    → let a = c .before .before .before .before .before .before .args in
+    NextRow (a .plane .now) (c .before .loop .target) (a .cols) (a .pads .left) (a .pads .top) (newCols (a .cols) (a .pads)) (c .before .loop .i)
+next c = next-row (c .before .loop .inv) (c .loop-test .taken)
 
-add-lay-row-u32 : tie.Need-add-lay-row-u32 Inv-loop μ-loop
-add-lay-row-u32 c = record { fits = omega (arith, fits (c .before)) }
+add-from : tie.Need-add-from Inv-loop μ-loop
+add-from c = search needs
+
+mul-from : tie.Need-mul-from Inv-loop μ-loop
+mul-from c = record { fits = omega (arith, next c) }
+
+add-from-2 : tie.Need-add-from-2 Inv-loop μ-loop
+add-from-2 c = record { fits = omega (arith, next c) }
+
+add-to : tie.Need-add-to Inv-loop μ-loop
+add-to c = record { fits = omega (arith, next c) }
+
+mul-start : tie.Need-mul-start Inv-loop μ-loop
+mul-start c = record { fits = omega (arith, next c) }
+
+add-end : tie.Need-add-end Inv-loop μ-loop
+add-end c = record { fits = omega (arith, next c) }
 
 mul-lay-row-u32 : tie.Need-mul-lay-row-u32 Inv-loop μ-loop
-mul-lay-row-u32 c = record { fits = omega (arith, fits (c .before)) }
+mul-lay-row-u32 c = record { fits = omega (arith, next c) }
 
-add-lay-row-u32-2 : tie.Need-add-lay-row-u32-2 Inv-loop μ-loop
-add-lay-row-u32-2 c = record { fits = omega (arith, fits (c .before)) }
+sub-lay-row-u32 : tie.Need-sub-lay-row-u32 Inv-loop μ-loop
+sub-lay-row-u32 c = search needs
+
+part-lay-row-u32-start : tie.Need-part-lay-row-u32-start Inv-loop μ-loop
+part-lay-row-u32-start c = search needs
+
+part-lay-row-u32-end : tie.Need-part-lay-row-u32-end Inv-loop μ-loop
+part-lay-row-u32-end c = next c .laid-in
 
 mul-lay-row-u32-2 : tie.Need-mul-lay-row-u32-2 Inv-loop μ-loop
-mul-lay-row-u32-2 c = record { fits = omega (arith, fits (c .before)) }
+mul-lay-row-u32-2 c = record { fits = omega (arith, next (c .before)) }
+
+sub-lay-row-u32-2 : tie.Need-sub-lay-row-u32-2 Inv-loop μ-loop
+sub-lay-row-u32-2 c = search needs
+
+part-lay-row-u32-start-2 : tie.Need-part-lay-row-u32-start-2 Inv-loop μ-loop
+part-lay-row-u32-start-2 c = search needs
+
+part-lay-row-u32-end-2 : tie.Need-part-lay-row-u32-end-2 Inv-loop μ-loop
+part-lay-row-u32-end-2 c = next (c .before) .read-in
 
 lay-row-u32-requires : tie.Need-lay-row-u32-requires Inv-loop μ-loop
-lay-row-u32-requires c κs = (omega (arith, fits (c .before)), fits (c .before) .read-in)
+lay-row-u32-requires c κs = next (c .before .before) .one-length
 
 add-i : tie.Need-add-i Inv-loop μ-loop
 add-i c = search needs
@@ -61,16 +86,16 @@ loop-less c = search needs
 
 loop-again : tie.Need-loop-again Inv-loop μ-loop
 loop-again c =
-    let d = c .before .before .before in
-    let f = fits (d .before) in
-    let e = c .before .before .lay-row-u32 .ensures ∙ laid-more 0 _ _ _ _ _ _ _ _ (f .inner) (f .some) (d .before .before .loop .inv .2) in
-    (ap length e ∙ laid-length 0 _ _ _ _ _ _ _, omega arith, e)
+    let k = c .before .before in
+    let d = k .before .before .before in
+    laid-turn (d .before .loop .inv) (d .loop-test .taken) (k .lay-row-u32 .ensures)
 
 same-length : tie.Need-same-length Inv-loop μ-loop
 same-length c = search needs
 
 returns : tie.Need-returns Inv-loop μ-loop
-returns c = laid-end 0 _ _ _ _ _ _ _ _ (c .before .loop .i) (omega arith) (omega arith) (c .before .loop .inv .2)
+unfolding rowsLaid
+returns c = laid-done (c .before .loop .inv) (c .loop-test .left)
 
 pub lay-rows-u32-spec : {M : Type 1} → statement M
 lay-rows-u32-spec =
@@ -81,10 +106,20 @@ lay-rows-u32-spec =
     add-wide
     add-wide-2
     loop-holds
-    add-lay-row-u32
+    add-from
+    mul-from
+    add-from-2
+    add-to
+    mul-start
+    add-end
     mul-lay-row-u32
-    add-lay-row-u32-2
+    sub-lay-row-u32
+    part-lay-row-u32-start
+    part-lay-row-u32-end
     mul-lay-row-u32-2
+    sub-lay-row-u32-2
+    part-lay-row-u32-start-2
+    part-lay-row-u32-end-2
     lay-row-u32-requires
     add-i
     loop-less
