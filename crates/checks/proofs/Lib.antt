@@ -1,3 +1,4 @@
 pub mod Sides
 pub mod Tiled
+pub mod Lengths
 pub mod Coincide

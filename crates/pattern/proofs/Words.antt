@@ -21,7 +21,7 @@ use Rattle.base.specs.Counting.{pick, every}
 use Rattle.base.proofs.Bools.{and-left, and-right, and-both, or-left, by-test, same-test}
 use Rattle.base.proofs.Counted.{every-ext}
 use Rattle.rules.specs.Fit.{agrees, agreesAt, fitsTile}
-use Rattle.pattern.specs.Words.{word, maskOf, Cells, Masked}
+use Rattle.pattern.specs.Words.{shownBy, cellsFrom, word, maskOf, Cells, Masked}
 
 pub word-ext : (n : ℕ) (f g : ℕ → ℕ) → ((i : ℕ) → i < n → f i ≡ g i) → word n f ≡ word n g
 unfolding word
@@ -41,25 +41,27 @@ unfolding word
 word-join m zero f = ap (λ (k : ℕ). word k f) (add-zero m) ∙ omega arith
 word-join m (suc n) f =
     ap (λ (k : ℕ). word k f) (add-suc m n)
-    ∙ ap₂ (λ (a b : ℕ). f (m + n) * a + b) (ap (λ (k : ℕ). 2 ^ k) (let e : 8 * (m + n) ≡ 8 * n + 8 * m = omega arith in e) ∙ pow-add 2 (8 * n) (8 * m)) (word-join m n f)
+    ∙ ap₂ (λ (a b : ℕ). f (m + n) * a + b)
+    (ap (λ (k : ℕ). 2 ^ k) (let e : 8 * (m + n) ≡ 8 * n + 8 * m = omega arith in e) ∙ pow-add 2 (8 * n) (8 * m))
+    (word-join m n f)
     ∙ gather (f (m + n)) (2 ^ (8 * n)) (2 ^ (8 * m)) (word n (λ i. f (m + i))) (word m f)
   where
     gather : (a p q b d : ℕ) → a * (p * q) + (b * q + d) ≡ (a * p + b) * q + d
     gather a p q b d = rw (add-mul (a * p) b q, mul-assoc a p q) (omega arith)
 
 -- the cells of a list from one on, as the code reads them
-pub pair-is : (cells : List ℕ) (at : ℕ) → getD cells (at + 1) 0 * 256 + getD cells at 0 ≡ word 2 (λ i. getD cells (at + i) 0)
+pub pair-is : (cells : List ℕ) (at : ℕ) → getD cells (at + 1) 0 * 256 + getD cells at 0 ≡ word 2 (cellsFrom cells at)
 unfolding word
 pair-is cells at = let e : getD cells (at + 0) 0 ≡ getD cells at 0 = ap (λ (k : ℕ). getD cells k 0) (add-zero at) in omega arith
 
-pub joined : (m n : ℕ) (cells : List ℕ) (at : ℕ) {high low : ℕ} → high ≡ word n (λ i. getD cells (at + m + i) 0) → low ≡ word m (λ i. getD cells (at + i) 0)
-    → high * 2 ^ (8 * m) + low ≡ word (m + n) (λ i. getD cells (at + i) 0)
+pub joined : (m n : ℕ) (cells : List ℕ) (at : ℕ) {high low : ℕ} → high ≡ word n (cellsFrom cells (at + m)) → low ≡ word m (cellsFrom cells at)
+    → high * 2 ^ (8 * m) + low ≡ word (m + n) (cellsFrom cells at)
 joined m n cells at p q =
     rw (p, q)
-    (ap (λ (x : ℕ). x * 2 ^ (8 * m) + word m (λ i. getD cells (at + i) 0)) (word-ext n _ _ (λ i l. ap (λ (k : ℕ). getD cells k 0) (add-assoc at m i)))
-    ∙ sym (word-join m n (λ i. getD cells (at + i) 0)))
+    (ap (λ (x : ℕ). x * 2 ^ (8 * m) + word m (cellsFrom cells at)) (word-ext n _ _ (λ i l. ap (λ (k : ℕ). getD cells k 0) (add-assoc at m i)))
+    ∙ sym (word-join m n (cellsFrom cells at)))
 
-pub from-first : (n : ℕ) (cells : List ℕ) → word n (λ i. getD cells (0 + i) 0) ≡ word n (λ i. getD cells i 0)
+pub from-first : (n : ℕ) (cells : List ℕ) → word n (cellsFrom cells 0) ≡ word n (shownBy cells)
 from-first n cells = word-ext n _ _ (λ i l. ap (λ (k : ℕ). getD cells k 0) (zero-add i))
 
 pub word-none : (n : ℕ) → word n (λ i. 0) ≡ 0
@@ -81,14 +83,16 @@ digit-eq p a b r s l m = same-test _ _ from to
     to e =
         eq-eqb _ _ (ap₂ (λ (x y : ℕ). x * p + y) (eqb-true a b (and-right (eqb r s) (eqb a b) e)) (eqb-true r s (and-left (eqb r s) (eqb a b) e)))
 
-pub word-eq : (n : ℕ) (f g : ℕ → ℕ) → ((i : ℕ) → i < n → f i < 256) → ((i : ℕ) → i < n → g i < 256) → eqb (word n f) (word n g) ≡ every n (λ i. eqb (f i) (g i))
+pub word-eq : (n : ℕ) (f g : ℕ → ℕ) → ((i : ℕ) → i < n → f i < 256) → ((i : ℕ) → i < n → g i < 256)
+    → eqb (word n f) (word n g) ≡ every n (λ i. eqb (f i) (g i))
 unfolding word every
 word-eq zero f g h k = refl
 word-eq (suc n) f g h k =
     digit-eq (2 ^ (8 * n)) (f n) (g n) (word n f) (word n g) (word-lt n f (λ i l. h i (le-step l))) (word-lt n g (λ i l. k i (le-step l)))
     ∙ ap (λ (b : Bool). b && eqb (f n) (g n)) (word-eq n f g (λ i l. h i (le-step l)) (λ i l. k i (le-step l)))
 
-pub and-word : (n : ℕ) (f g : ℕ → ℕ) → ((i : ℕ) → i < n → f i < 256) → ((i : ℕ) → i < n → g i < 256) → bitAnd (word n f) (word n g) ≡ word n (λ i. bitAnd (f i) (g i))
+pub and-word : (n : ℕ) (f g : ℕ → ℕ) → ((i : ℕ) → i < n → f i < 256) → ((i : ℕ) → i < n → g i < 256)
+    → bitAnd (word n f) (word n g) ≡ word n (λ i. bitAnd (f i) (g i))
 unfolding word
 and-word zero f g h k = and-zero-l 0
 and-word (suc n) f g h k =
@@ -119,39 +123,45 @@ masked colour cell l = by-test (eqb colour 0) bare laid
 
 -- eight cells in one number, and the ninth
 pub masked-fits : (tiles window mask : List ℕ) (n : ℕ) → Masked window mask → ((i : ℕ) → getD tiles i 0 < 256)
-    → (eqb (bitAnd (word 8 (λ i. getD tiles (n * 9 + i) 0)) (word 8 (λ i. getD mask i 0))) (word 8 (λ i. getD window i 0))
-    && eqb (bitAnd (getD tiles (n * 9 + 8) 0) (getD mask 8 0)) (getD window 8 0)) ≡ fitsTile tiles (λ i. getD window i 0) n
+    → (eqb (bitAnd (word 8 (cellsFrom tiles (n * 9))) (word 8 (shownBy mask))) (word 8 (shownBy window))
+    && eqb (bitAnd (cellsFrom tiles (n * 9) 8) (shownBy mask 8)) (shownBy window 8)) ≡ fitsTile tiles (shownBy window) n
 unfolding fitsTile every
 masked-fits tiles window mask n k low = ap₂ _&&_ eight (at 8 (omega arith))
   where
-    at : (i : ℕ) → i < 9 → eqb (bitAnd (getD tiles (n * 9 + i) 0) (getD mask i 0)) (getD window i 0) ≡ agreesAt tiles (λ i. getD window i 0) n i
-    at i l = ap (λ (m : ℕ). eqb (bitAnd (getD tiles (n * 9 + i) 0) m) (getD window i 0)) (k .masks i l) ∙ masked (getD window i 0) (getD tiles (n * 9 + i) 0) (low (n * 9 + i))
+    at : (i : ℕ) → i < 9 → eqb (bitAnd (cellsFrom tiles (n * 9) i) (shownBy mask i)) (shownBy window i) ≡ agreesAt tiles (shownBy window) n i
+    at i l =
+        ap (λ (m : ℕ). eqb (bitAnd (cellsFrom tiles (n * 9) i) m) (shownBy window i)) (k .masks i l)
+        ∙ masked (shownBy window i) (cellsFrom tiles (n * 9) i) (low (n * 9 + i))
 
-    small : (i : ℕ) → i < 8 → getD mask i 0 < 256
-    small i l = rw (k .masks i (omega arith)) (mask-lt (eqb (getD window i 0) 0))
+    small : (i : ℕ) → i < 8 → shownBy mask i < 256
+    small i l = rw (k .masks i (omega arith)) (mask-lt (eqb (shownBy window i) 0))
 
-    eight : eqb (bitAnd (word 8 (λ i. getD tiles (n * 9 + i) 0)) (word 8 (λ i. getD mask i 0))) (word 8 (λ i. getD window i 0)) ≡ every 8 (agreesAt tiles (λ i. getD window i 0) n)
+    eight : eqb (bitAnd (word 8 (cellsFrom tiles (n * 9))) (word 8 (shownBy mask))) (word 8 (shownBy window))
+        ≡ every 8 (agreesAt tiles (shownBy window) n)
     eight =
-        ap (λ (x : ℕ). eqb x (word 8 (λ i. getD window i 0))) (and-word 8 (λ i. getD tiles (n * 9 + i) 0) (λ i. getD mask i 0) (λ i l. low (n * 9 + i)) small)
-        ∙ word-eq 8 _ _ (λ i l. and-lt 8 (getD tiles (n * 9 + i) 0) (getD mask i 0) (low (n * 9 + i)) (small i l)) (λ i l. k .cells .low i (omega arith))
+        ap (λ (x : ℕ). eqb x (word 8 (shownBy window))) (and-word 8 (cellsFrom tiles (n * 9)) (shownBy mask) (λ i l. low (n * 9 + i)) small)
+        ∙ word-eq 8 _ _ (λ i l. and-lt 8 (cellsFrom tiles (n * 9) i) (shownBy mask i) (low (n * 9 + i)) (small i l)) (λ i l. k .cells .low i (omega arith))
         ∙ every-ext _ _ 8 (λ i l. at i (omega arith))
 
 -- eight cells and the ninth are all 0
-pub bare-cells : (window : List ℕ) → Cells window → (eqb (word 8 (λ i. getD window i 0)) 0 && eqb (getD window 8 0) 0) ≡ every 9 (λ i. eqb (getD window i 0) 0)
+pub bare-cells : (window : List ℕ) → Cells window → (eqb (word 8 (shownBy window)) 0 && eqb (shownBy window 8) 0) ≡ every 9 (λ i. eqb (shownBy window i) 0)
 unfolding every
 bare-cells window k =
-    ap (λ (b : Bool). b && eqb (getD window 8 0) 0)
-    (ap (λ (z : ℕ). eqb (word 8 (λ i. getD window i 0)) z) (sym (word-none 8)) ∙ word-eq 8 (λ i. getD window i 0) (λ i. 0) (λ i l. k .low i (omega arith)) (λ i l. omega arith))
+    ap (λ (b : Bool). b && eqb (shownBy window 8) 0)
+    (ap (λ (z : ℕ). eqb (word 8 (shownBy window)) z) (sym (word-none 8))
+    ∙ word-eq 8 (shownBy window) (λ i. 0) (λ i l. k .low i (omega arith)) (λ i l. omega arith))
 
 -- a tile that differs within the first eight cells does not fit; where it does not differ there, the ninth decides
 pub left-there : (tiles window mask : List ℕ) (n : ℕ) → Masked window mask → ((i : ℕ) → getD tiles i 0 < 256)
-    → (bitAnd (word 8 (λ i. getD tiles (n * 9 + i) 0)) (word 8 (λ i. getD mask i 0)) ≡ word 8 (λ i. getD window i 0) → ⊥)
-    → false ≡ fitsTile tiles (λ i. getD window i 0) n
+    → (bitAnd (word 8 (cellsFrom tiles (n * 9))) (word 8 (shownBy mask)) ≡ word 8 (shownBy window) → ⊥)
+    → false ≡ fitsTile tiles (shownBy window) n
 left-there tiles window mask n k low h =
-    sym (ap (λ (b : Bool). b && eqb (bitAnd (getD tiles (n * 9 + 8) 0) (getD mask 8 0)) (getD window 8 0)) (ne-eqb _ _ h)) ∙ masked-fits tiles window mask n k low
+    sym (ap (λ (b : Bool). b && eqb (bitAnd (cellsFrom tiles (n * 9) 8) (shownBy mask 8)) (shownBy window 8)) (ne-eqb _ _ h))
+    ∙ masked-fits tiles window mask n k low
 
 pub ninth-decides : (tiles window mask : List ℕ) (n : ℕ) → Masked window mask → ((i : ℕ) → getD tiles i 0 < 256)
-    → bitAnd (word 8 (λ i. getD tiles (n * 9 + i) 0)) (word 8 (λ i. getD mask i 0)) ≡ word 8 (λ i. getD window i 0)
-    → eqb (bitAnd (getD tiles (n * 9 + 8) 0) (getD mask 8 0)) (getD window 8 0) ≡ fitsTile tiles (λ i. getD window i 0) n
+    → bitAnd (word 8 (cellsFrom tiles (n * 9))) (word 8 (shownBy mask)) ≡ word 8 (shownBy window)
+    → eqb (bitAnd (cellsFrom tiles (n * 9) 8) (shownBy mask 8)) (shownBy window 8) ≡ fitsTile tiles (shownBy window) n
 ninth-decides tiles window mask n k low h =
-    sym (ap (λ (b : Bool). b && eqb (bitAnd (getD tiles (n * 9 + 8) 0) (getD mask 8 0)) (getD window 8 0)) (eq-eqb _ _ h)) ∙ masked-fits tiles window mask n k low
+    sym (ap (λ (b : Bool). b && eqb (bitAnd (cellsFrom tiles (n * 9) 8) (shownBy mask 8)) (shownBy window 8)) (eq-eqb _ _ h))
+    ∙ masked-fits tiles window mask n k low

@@ -1,4 +1,4 @@
--- Cells read as one number: each is a byte, the first the lowest.
+-- What a window that was read shows, and cells read as one number: each is a byte, the first the lowest.
 use Prim.Native.Nat.{ℕ, zero, suc, _+_, _*_, _^_, _<_}
 use mathlib.Core.Path.{_≡_}
 use mathlib.Core.List.{List}
@@ -6,6 +6,14 @@ use lib.Dec.{eqb}
 use lib.ListN.{getD}
 use Rattle.base.specs.Counting.{pick}
 use Rattle.rules.specs.Bounds.{tileCells}
+
+-- the colour at each place of a window that was read
+abbrev pub shownBy : List ℕ → ℕ → ℕ
+shownBy window i = getD window i 0
+
+-- the cells of a list from one on
+abbrev pub cellsFrom : List ℕ → ℕ → ℕ → ℕ
+cellsFrom cells at i = getD cells (at + i) 0
 
 unfoldable pub word : ℕ → (ℕ → ℕ) → ℕ
 word zero f = 0
@@ -17,9 +25,9 @@ maskOf colour = pick (eqb colour 0) 0 255
 
 -- nine cells, each a byte
 pub record Cells (window : List ℕ) : Type 0 where
-  pub low : (i : ℕ) → i < tileCells → getD window i 0 < 256
+  pub low : (i : ℕ) → i < tileCells → shownBy window i < 256
 
 -- a window's colours with their masks
 pub record Masked (window mask : List ℕ) : Type 0 where
   pub cells : Cells window
-  pub masks : (i : ℕ) → i < tileCells → getD mask i 0 ≡ maskOf (getD window i 0)
+  pub masks : (i : ℕ) → i < tileCells → shownBy mask i ≡ maskOf (shownBy window i)

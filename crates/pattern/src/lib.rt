@@ -3,18 +3,19 @@
 ghost use mathlib.Core.Path.{_≡_};
 ghost use Prim.Native.Nat.{_+_, _*_, _≤_};
 ghost use lib.Dec.{eqb};
-ghost use lib.ListN.{length, getD};
+ghost use lib.ListN.{length};
 ghost use Rattle.base.specs.Counting.{every};
 ghost use Rattle.base.specs.Tables.{tab};
-ghost use Rattle.rules.specs.Grid.{flat, cellNumber, colourOn};
+ghost use Rattle.rules.specs.Grid.{flat, cellAt, numberOf, numberOrPast, colourOn};
 ghost use Rattle.rules.specs.Fit.{pattern, fitsTile};
+ghost use Rattle.rules.specs.Promises.{before};
 ghost use Rattle.pattern.specs.Ready.{Readable, OnGrid};
-ghost use Rattle.pattern.specs.Words.{word, maskOf, Cells, Masked};
+ghost use Rattle.pattern.specs.Words.{shownBy, cellsFrom, word, maskOf, Cells, Masked};
 
 // The colour on the cell (r, c); 0 where it is bare or past the edge.
 fn colour_at(pieces: &[u32], rows: usize, cols: usize, r: usize, c: usize) -> u8
     requires { ⌜ Readable (now pieces) rows cols ⌝ }
-    ensures { λ x. ⌜ x ≡ colourOn (now (pieces .entry)) (cellNumber rows cols r c) ⌝ }
+    ensures { λ x. ⌜ x ≡ colourOn (before pieces) (numberOrPast rows cols (cellAt r c)) ⌝ }
 {
     if r >= rows {
         return 0;
@@ -35,7 +36,7 @@ pub fn window_at(
 ) -> [u8; rules::TILE_CELLS]
     requires { ⌜ Readable (now pieces) rows cols ⌝ }
     requires { ⌜ OnGrid rows cols row col ⌝ }
-    ensures { λ w. ⌜ w ≡ tab 9 (pattern (flat rows cols) (now (pieces .entry)) (row * cols + col)) ⌝ }
+    ensures { λ w. ⌜ w ≡ tab 9 (pattern (flat rows cols) (before pieces) (numberOf cols (cellAt row col))) ⌝ }
 {
     let mut window = [0u8; rules::TILE_CELLS];
     let mut i = 0;
@@ -49,7 +50,7 @@ pub fn window_at(
 // Two, four and eight cells read as one number, the first the lowest: the compiler makes one load of the eight.
 fn pair(cells: &[u8], at: usize) -> u64
     requires { ⌜ at + 2 ≤ length (now cells) ⌝ }
-    ensures { λ r. ⌜ r ≡ word 2 (λ i. getD (now (cells .entry)) (at + i) 0) ⌝ }
+    ensures { λ r. ⌜ r ≡ word 2 (cellsFrom (before cells) at) ⌝ }
 {
     let low = cells[at] as u64;
     let high = cells[at + 1] as u64;
@@ -58,7 +59,7 @@ fn pair(cells: &[u8], at: usize) -> u64
 
 fn four(cells: &[u8], at: usize) -> u64
     requires { ⌜ at + 4 ≤ length (now cells) ⌝ }
-    ensures { λ r. ⌜ r ≡ word 4 (λ i. getD (now (cells .entry)) (at + i) 0) ⌝ }
+    ensures { λ r. ⌜ r ≡ word 4 (cellsFrom (before cells) at) ⌝ }
 {
     let low = pair(cells, at);
     let high = pair(cells, at + 2);
@@ -67,7 +68,7 @@ fn four(cells: &[u8], at: usize) -> u64
 
 fn eight(cells: &[u8], at: usize) -> u64
     requires { ⌜ at + 8 ≤ length (now cells) ⌝ }
-    ensures { λ r. ⌜ r ≡ word 8 (λ i. getD (now (cells .entry)) (at + i) 0) ⌝ }
+    ensures { λ r. ⌜ r ≡ word 8 (cellsFrom (before cells) at) ⌝ }
 {
     let low = four(cells, at);
     let high = four(cells, at + 4);
@@ -82,7 +83,7 @@ fn mask_for(colour: u8) -> u8
 }
 
 pub fn masks_for(window: &[u8; rules::TILE_CELLS]) -> [u8; rules::TILE_CELLS]
-    ensures { λ r. ⌜ r ≡ tab 9 (λ i. maskOf (getD (now (window .entry)) i 0)) ⌝ }
+    ensures { λ r. ⌜ r ≡ tab 9 (λ i. maskOf (shownBy (before window) i)) ⌝ }
 {
     let mut masks = [0u8; rules::TILE_CELLS];
     let mut k = 0;
@@ -102,7 +103,7 @@ pub fn tile_fits(
 ) -> bool
     requires { ⌜ n * 9 + 9 ≤ length (now tiles) ⌝ }
     requires { ⌜ Masked (now window) (now mask) ⌝ }
-    ensures { λ r. ⌜ r ≡ fitsTile (now (tiles .entry)) (λ i. getD (now (window .entry)) i 0) n ⌝ }
+    ensures { λ r. ⌜ r ≡ fitsTile (before tiles) (shownBy (before window)) n ⌝ }
 {
     let at = n * rules::TILE_CELLS;
     if (eight(tiles, at) & eight(mask, 0)) != eight(window, 0) {
@@ -114,7 +115,7 @@ pub fn tile_fits(
 // No piece lies in the window.
 pub fn is_bare(window: &[u8; rules::TILE_CELLS]) -> bool
     requires { ⌜ Cells (now window) ⌝ }
-    ensures { λ r. ⌜ r ≡ every 9 (λ i. eqb (getD (now (window .entry)) i 0) 0) ⌝ }
+    ensures { λ r. ⌜ r ≡ every 9 (λ i. eqb (shownBy (before window) i) 0) ⌝ }
 {
     let first = eight(window, 0) == 0;
     let last = window[8] == 0;

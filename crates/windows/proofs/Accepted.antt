@@ -1,58 +1,60 @@
 -- What accepted checks give: the records of specs/Ready.antt that the functions beneath the calls ask for.
---     accepted-ready    pieces and tiles that passed, with a colour count that did
+--     ready-from    the tests of pieces, tiles and colours, from whatever list of checks they come
+--     accepted-ready    the list of them that was accepted
 --     ready-coloured    tiles whose colours a set can hold
 --     set-readable, set-countable    a plane in which one cell was stored to, a bare one or a colour
 -- Assumes nothing.
 use Prim.Native.Nat.{ℕ, _+_, _*_, _<_, _≤_}
-use mathlib.Core.Path.{_≡_, sym, _∙_, ap, subst}
+use mathlib.Core.Path.{_≡_, refl, sym, _∙_, ap, subst}
+use mathlib.Core.Bool.{true}
 use mathlib.Core.List.{List}
 use native.Mathlib.Omega.{arith}
 use borrow.Author.Tests.{eqb-true, eqb-false}
 use lib.Dec.{eqb}
 use lib.ListN.{length, getD, set, length-set}
 use lib.Seq.{getD-set-same, getD-set-other}
-use Rattle.base.specs.Refusal.{accepted, refusal}
+use Rattle.base.specs.Refusal.{refusal}
 use Rattle.base.proofs.Bools.{by-test}
-use Rattle.base.proofs.Chain.{passed}
+use Rattle.base.proofs.Chain.{Passes, all-pass}
 use Rattle.rules.specs.Bounds.{maxColours}
-use Rattle.rules.specs.Tests.{boardSides, hasLength, wholeTiles, tilesIn, colourCount, noneAbove, piecesStored}
+use Rattle.rules.specs.Tests.{boardSides, wholeTiles, tilesIn, piecesStored}
 use Rattle.rules.specs.Fit.{piecesChecks}
 use Rattle.checks.proofs.Sides.{board-rows, board-cols, long, tiles-most, whole-number, whole-length, count-most, none-above, stored-least, stored-most}
 use Rattle.pattern.specs.Ready.{Readable}
 use Rattle.windows.specs.Ready.{Countable, Coloured, Ready}
 
-pub accepted-ready : (pieces : List ℕ) (rows cols : ℕ) (tiles : List ℕ) (count : ℕ) → refusal (piecesChecks pieces rows cols tiles count accepted) ≡ 0
-    → Ready pieces rows cols tiles count
-accepted-ready pieces rows cols tiles count e =
-    let sides = passed 0 (boardSides rows cols) _ e in
-    let plane = passed 1 (hasLength pieces (rows * cols)) _ (sides .1) in
-    let whole = passed 1 (wholeTiles tiles) _ (plane .1) in
-    let colours = passed 2 (colourCount count) _ (whole .1) in
-    let known = passed 3 (noneAbove tiles count) _ (colours .1) in
-    let stored = passed 3 (piecesStored pieces count) _ (known .1) in
-    let few : count ≤ maxColours = count-most count (colours .0) in
-    record {
-      tried = record {
-        board = record {
-          tall = board-rows rows cols (sides .0) .1;
-          wide = board-cols rows cols (sides .0) .1;
-          plane = long pieces (rows * cols) (plane .0);
-          least = stored-least pieces count (stored .0);
-          most = λ k h. omega (arith, stored-most pieces count (stored .0) k h);
+module _ (pieces : List ℕ) (rows cols : ℕ) (tiles : List ℕ) (count : ℕ) where
+  pub ready-from : Passes (piecesChecks pieces rows cols tiles count) → Ready pieces rows cols tiles count
+  ready-from h =
+      let sides : boardSides rows cols ≡ true = search in
+      let whole : wholeTiles tiles ≡ true = search in
+      let stored : piecesStored pieces count ≡ true = search in
+      let few : count ≤ maxColours = count-most count (search) in
+      record {
+        tried = record {
+          board = record {
+            tall = board-rows rows cols sides .1;
+            wide = board-cols rows cols sides .1;
+            plane = long pieces (rows * cols) (search);
+            least = stored-least pieces count stored;
+            most = λ k l. omega (arith, stored-most pieces count stored k l);
+          };
+          whole = whole-length tiles whole;
+          few = tiles-most (tilesIn tiles) (whole-number tiles whole);
         };
-        whole = whole-length tiles (whole .0);
-        few = tiles-most (tilesIn tiles) (whole-number tiles (whole .0));
-      };
-      colours = few;
-      known = none-above tiles count (known .0);
-    }
+        colours = few;
+        known = none-above tiles count (search);
+      }
 
-pub ready-coloured : (pieces : List ℕ) (rows cols : ℕ) (tiles : List ℕ) (count : ℕ) → Ready pieces rows cols tiles count → Coloured tiles
-ready-coloured pieces rows cols tiles count r =
-    record { whole = r .tried .whole; known = λ i h. omega (arith, r .known i h, r .colours) }
+  pub accepted-ready : refusal (piecesChecks pieces rows cols tiles count) ≡ 0 → Ready pieces rows cols tiles count
+  accepted-ready e = ready-from (all-pass (piecesChecks pieces rows cols tiles count) refl e)
+
+  pub ready-coloured : Ready pieces rows cols tiles count → Coloured tiles
+  ready-coloured r = record { whole = r .tried .whole; known = λ i h. omega (arith, r .known i h, r .colours) }
 
 -- what holds of every entry and of the value stored holds of every entry then
-set-keeps : (P : ℕ → Type 0) (l : List ℕ) (k v : ℕ) → P v → ((i : ℕ) → i < length l → P (getD l i 0)) → (i : ℕ) → i < length (set l k v) → P (getD (set l k v) i 0)
+set-keeps : (P : ℕ → Type 0) (l : List ℕ) (k v : ℕ) → P v → ((i : ℕ) → i < length l → P (getD l i 0))
+    → (i : ℕ) → i < length (set l k v) → P (getD (set l k v) i 0)
 set-keeps P l k v p h i b =
     let i< : i < length l = omega (arith, length-set l k v) in
     by-test (eqb i k)

@@ -1,4 +1,5 @@
 pub mod Fitting
 pub mod Accepted
+pub mod Kept
 pub mod Lists
 pub mod Meaning

@@ -8,7 +8,7 @@ use mathlib.Core.Bool.{Bool, true, not, _&&_, _||_}
 use mathlib.Core.List.{List, [], _∷_}
 use mathlib.Core.Logic.{⊎-elim}
 use native.Mathlib.Omega.{arith}
-use borrow.Author.Tests.{leb-true, le-leb, ltb-true, eqb-true, eqb-false, eq-eqb}
+use borrow.Author.Tests.{leb-true, ltb-true, eqb-true, eqb-false, eq-eqb}
 use lib.Dec.{leb, ltb, eqb}
 use lib.ListN.{getD}
 use Rattle.base.specs.Counting.{every}
@@ -16,11 +16,13 @@ use Rattle.base.proofs.Bools.{and-left, and-right, and-both, or-left, or-right,
 use Rattle.base.proofs.Counted.{every-at, every-is, some-at, some-is}
 use Rattle.base.proofs.Numbers.{lt-or-le}
 use Rattle.rules.specs.Tests.{tilesIn}
-use Rattle.rules.specs.Grid.{Shape, flat, cellNumber, colourOn}
+use Rattle.rules.specs.Grid.{numberOf, Shape, numberOrPast, flat, colourOn}
 use Rattle.rules.specs.Fit.{pattern, agrees, agreesAt, fitsTile, serves, hasFitting, allows, windowOrder, leftAfter, lists}
+use Rattle.rules.specs.declared.Cell.{Cell}
 use Rattle.pattern.specs.Ready.{Readable}
-use Rattle.pattern.proofs.Windows.{on-grid, off-rows, off-cols, bare-past, pattern-is}
-use Rattle.windows.proofs.Lists.{kept-is, start-is, order-lt}
+use Rattle.pattern.proofs.Flat.{placeFrom, startFor, on-grid, off-rows, off-cols, pattern-is, start-is, kept-is, is-kept}
+use Rattle.pattern.proofs.Windows.{bare-past}
+use Rattle.windows.proofs.Lists.{order-lt}
 
 -- ---- the order of the windows
 
@@ -35,7 +37,9 @@ placed-test = refl
 pub in-order : (f : ℕ → Bool) → every 9 (λ i. f (getD windowOrder i 0)) ≡ every 9 f
 in-order f =
     same-test _ _
-    (λ e. every-is f 9 (λ q l. let w = found q l in subst (λ (x : ℕ). f x ≡ true) (w .1) (every-at (λ i. f (getD windowOrder i 0)) 9 e (getD placed q 0) (w .0))))
+    (λ e.
+    every-is f 9 (λ q l.
+    let w = found q l in subst (λ (x : ℕ). f x ≡ true) (w .1) (every-at (λ i. f (getD windowOrder i 0)) 9 e (getD placed q 0) (w .0))))
     (λ e. every-is (λ i. f (getD windowOrder i 0)) 9 (λ i l. every-at f 9 e (getD windowOrder i 0) (order-lt i l)))
   where
     found : (q : ℕ) → q < 9 → (getD placed q 0 < 9) × (getD windowOrder (getD placed q 0) 0 ≡ q)
@@ -63,20 +67,24 @@ unfolding agrees
 agree-to a b h = by-test (eqb a 0) (λ z. or-left (eqb a 0) (eqb a b) z) (λ z. or-right (eqb a 0) (eqb a b) (eq-eqb a b (sym (h (eqb-false a 0 z)))))
 
 module _ (g : Shape) (tiles pieces : List ℕ) (k t : ℕ) where
-  shown : ℕ → ℕ → ℕ
+  abbrev shown : ℕ → ℕ → ℕ
   shown q = pattern g pieces (g .start k q)
 
   pub lists-from : lists g tiles pieces k t ≡ true → Listed g tiles pieces k t
-  unfolding Listed Agrees leftAfter allows hasFitting fitsTile shown
+  unfolding Listed Agrees leftAfter allows hasFitting fitsTile
   lists-from e q l kept =
       let h = every-at (allows g tiles pieces k t) 9 (sym (in-order (allows g tiles pieces k t)) ∙ e) q l in
       let s : hasFitting tiles (shown q) q t ≡ true = sym (ap (λ (b : Bool). not b || hasFitting tiles (shown q) q t) kept) ∙ h in
       let w = some-at (serves tiles (shown q) q t) (tilesIn tiles) s in
-      let f = and-left (fitsTile tiles (shown q) (w .0)) (eqb t (getD tiles (w .0 * 9 + q) 0)) (w .2) in
-      (w .0, w .1, (λ i m. agree-from _ _ (every-at (agreesAt tiles (shown q) (w .0)) 9 f i m)), sym (eqb-true t _ (and-right (fitsTile tiles (shown q) (w .0)) (eqb t (getD tiles (w .0 * 9 + q) 0)) (w .2))))
+      let f = and-left (fitsTile tiles (shown q) (w .0)) (eqb t (getD tiles (w .0 * 9 + q) 0)) (w .2) in (
+        w .0,
+        w .1,
+        (λ i m. agree-from _ _ (every-at (agreesAt tiles (shown q) (w .0)) 9 f i m)),
+        sym (eqb-true t _ (and-right (fitsTile tiles (shown q) (w .0)) (eqb t (getD tiles (w .0 * 9 + q) 0)) (w .2))),
+      )
 
   pub lists-to : Listed g tiles pieces k t → lists g tiles pieces k t ≡ true
-  unfolding Listed Agrees leftAfter allows hasFitting fitsTile shown
+  unfolding Listed Agrees leftAfter allows hasFitting fitsTile
   lists-to h = in-order (allows g tiles pieces k t) ∙ every-is (allows g tiles pieces k t) 9 (λ q l. by-test (g .kept k q) (λ e. at q l e) (λ e. rw e))
     where
       at : (q : ℕ) → q < 9 → g .kept k q ≡ true → allows g tiles pieces k t q ≡ true
@@ -90,78 +98,70 @@ module _ (g : Shape) (tiles pieces : List ℕ) (k t : ℕ) where
 
 -- ---- the flat board, in rows and columns
 
--- tile n agrees with the window that starts at (r, c): wherever a piece is laid on the board there, the tile has its colour. A laid piece
+-- tile n agrees with the window that starts at a cell: wherever a piece is laid on the board there, the tile has its colour. A laid piece
 -- of colour t stores t + 1, a bare cell 1; a place past the bottom or the right asks nothing
-pub AgreesFlat : ℕ → ℕ → List ℕ → List ℕ → ℕ → ℕ → ℕ → Type 0
-AgreesFlat rows cols tiles pieces r c n =
-    (i : ℕ) → i < 9 → r + i / 3 < rows → c + i % 3 < cols → 1 < getD pieces ((r + i / 3) * cols + (c + i % 3)) 0
-    → getD tiles (n * 9 + i) 0 + 1 ≡ getD pieces ((r + i / 3) * cols + (c + i % 3)) 0
+pub AgreesFlat : ℕ → ℕ → List ℕ → List ℕ → Cell → ℕ → Type 0
+AgreesFlat rows cols tiles pieces s n =
+    (i : ℕ) → i < 9 → placeFrom s i .0 < rows → placeFrom s i .1 < cols → 1 < getD pieces (numberOf cols (placeFrom s i)) 0
+    → getD tiles (n * 9 + i) 0 + 1 ≡ getD pieces (numberOf cols (placeFrom s i)) 0
 
 -- the window that has the cell at place q starts q / 3 rows above it and q % 3 columns left of it; it is kept unless that is above or left
 -- of the grid
-pub ListedFlat : ℕ → ℕ → List ℕ → List ℕ → ℕ → ℕ → ℕ → Type 0
-ListedFlat rows cols tiles pieces row col t =
-    (q : ℕ) → q < 9 → q / 3 ≤ row → q % 3 ≤ col
-    → (n : ℕ) × (n < tilesIn tiles) × AgreesFlat rows cols tiles pieces (row - q / 3) (col - q % 3) n × (getD tiles (n * 9 + q) 0 ≡ t)
+pub ListedFlat : ℕ → ℕ → List ℕ → List ℕ → Cell → ℕ → Type 0
+ListedFlat rows cols tiles pieces k t =
+    (q : ℕ) → q < 9 → q / 3 ≤ k .0 → q % 3 ≤ k .1
+    → (n : ℕ) × (n < tilesIn tiles) × AgreesFlat rows cols tiles pieces (startFor k q) n × (getD tiles (n * 9 + q) 0 ≡ t)
 
-module _ (rows cols : ℕ) (tiles pieces : List ℕ) (board : Readable pieces rows cols) (r c n : ℕ) (across : c < cols) where
-  pub agrees-from : Agrees (flat rows cols) tiles pieces (r * cols + c) n → AgreesFlat rows cols tiles pieces r c n
+module _ (rows cols : ℕ) (tiles pieces : List ℕ) (board : Readable pieces rows cols) (s : Cell) (n : ℕ) (across : s .1 < cols) where
+  -- what the board shows at place i, where that is on the grid
+  shown-is : (i : ℕ) → placeFrom s i .0 < rows → placeFrom s i .1 < cols
+      → colourOn pieces (numberOf cols (placeFrom s i)) ≡ pattern (flat rows cols) pieces (numberOf cols s) i
+  shown-is i p q = ap (colourOn pieces) (sym (on-grid rows cols (placeFrom s i) p q)) ∙ pattern-is rows cols s i across pieces
+
+  pub agrees-from : Agrees (flat rows cols) tiles pieces (numberOf cols s) n → AgreesFlat rows cols tiles pieces s n
   unfolding Agrees AgreesFlat
-  agrees-from h i l p q laid =
-      let e : colourOn pieces (cellNumber rows cols (r + i / 3) (c + i % 3)) ≡ pattern (flat rows cols) pieces (r * cols + c) i = pattern-is pieces rows cols r c i across in
-      let k : cellNumber rows cols (r + i / 3) (c + i % 3) ≡ (r + i / 3) * cols + (c + i % 3) = on-grid rows cols (r + i / 3) (c + i % 3) p q in
-      let s : getD pieces ((r + i / 3) * cols + (c + i % 3)) 0 - 1 ≡ pattern (flat rows cols) pieces (r * cols + c) i = ap (colourOn pieces) (sym k) ∙ e in
-      let a : getD tiles (n * 9 + i) 0 ≡ pattern (flat rows cols) pieces (r * cols + c) i = h i l (λ z. omega arith) in
-      omega arith
+  agrees-from h i l p q laid = let e = shown-is i p q in omega (arith, h i l (λ z. omega arith))
 
-  pub agrees-to : AgreesFlat rows cols tiles pieces r c n → Agrees (flat rows cols) tiles pieces (r * cols + c) n
+  pub agrees-to : AgreesFlat rows cols tiles pieces s n → Agrees (flat rows cols) tiles pieces (numberOf cols s) n
   unfolding Agrees AgreesFlat
   agrees-to h i l laid =
-      ⊎-elim (λ p. ⊎-elim (λ q. on p q) (λ q. off (off-cols rows cols (r + i / 3) (c + i % 3) q)) (lt-or-le (c + i % 3) cols)) (λ p. off (off-rows rows cols (r + i / 3) (c + i % 3) p)) (lt-or-le (r + i / 3) rows)
+      ⊎-elim (λ p. ⊎-elim (λ q. on p q) (λ q. off (off-cols rows cols (placeFrom s i) q)) (lt-or-le (placeFrom s i .1) cols))
+      (λ p. off (off-rows rows cols (placeFrom s i) p))
+      (lt-or-le (placeFrom s i .0) rows)
     where
-      e : colourOn pieces (cellNumber rows cols (r + i / 3) (c + i % 3)) ≡ pattern (flat rows cols) pieces (r * cols + c) i
-      e = pattern-is pieces rows cols r c i across
+      off : numberOrPast rows cols (placeFrom s i) ≡ rows * cols → getD tiles (n * 9 + i) 0 ≡ pattern (flat rows cols) pieces (numberOf cols s) i
+      off k = absurd (laid (sym (pattern-is rows cols s i across pieces) ∙ sym (bare-past pieces (rows * cols) _ (board .plane) k)))
 
-      off : cellNumber rows cols (r + i / 3) (c + i % 3) ≡ rows * cols → getD tiles (n * 9 + i) 0 ≡ pattern (flat rows cols) pieces (r * cols + c) i
-      off k = absurd (laid (sym e ∙ sym (bare-past pieces (rows * cols) _ (board .plane) k)))
+      above : {x : ℕ} → x - 1 ≡ pattern (flat rows cols) pieces (numberOf cols s) i → 1 < x
+      above {x} e = ⊎-elim (λ b. b) (λ b. absurd (laid (let z : x - 1 ≡ 0 = omega arith in sym e ∙ z))) (lt-or-le 1 x)
 
-      on : r + i / 3 < rows → c + i % 3 < cols → getD tiles (n * 9 + i) 0 ≡ pattern (flat rows cols) pieces (r * cols + c) i
-      on p q =
-          let k : cellNumber rows cols (r + i / 3) (c + i % 3) ≡ (r + i / 3) * cols + (c + i % 3) = on-grid rows cols (r + i / 3) (c + i % 3) p q in
-          let s : getD pieces ((r + i / 3) * cols + (c + i % 3)) 0 - 1 ≡ pattern (flat rows cols) pieces (r * cols + c) i = ap (colourOn pieces) (sym k) ∙ e in
-          let lies : 1 < getD pieces ((r + i / 3) * cols + (c + i % 3)) 0 = above s in
-          let a : getD tiles (n * 9 + i) 0 + 1 ≡ getD pieces ((r + i / 3) * cols + (c + i % 3)) 0 = h i l p q lies in
-          omega arith
-        where
-          above : {x : ℕ} → x - 1 ≡ pattern (flat rows cols) pieces (r * cols + c) i → 1 < x
-          above {x} s = ⊎-elim (λ b. b) (λ b. absurd (laid (let z : x - 1 ≡ 0 = omega arith in sym s ∙ z))) (lt-or-le 1 x)
+      on : placeFrom s i .0 < rows → placeFrom s i .1 < cols → getD tiles (n * 9 + i) 0 ≡ pattern (flat rows cols) pieces (numberOf cols s) i
+      on p q = let e = shown-is i p q in omega (arith, h i l p q (above e))
 
 -- document 01's sentence, both ways: A colour is listed exactly if every kept window has a fitting tile with that colour at the cell's
 -- place
-module _ (rows cols : ℕ) (tiles pieces : List ℕ) (board : Readable pieces rows cols) (row col t : ℕ) (across : col < cols) where
-  pub listed-from : lists (flat rows cols) tiles pieces (row * cols + col) t ≡ true → ListedFlat rows cols tiles pieces row col t
+module _ (rows cols : ℕ) (tiles pieces : List ℕ) (board : Readable pieces rows cols) (k : Cell) (t : ℕ) (across : k .1 < cols) where
+  pub listed-from : lists (flat rows cols) tiles pieces (numberOf cols k) t ≡ true → ListedFlat rows cols tiles pieces k t
   unfolding Listed ListedFlat
   listed-from e q l above left =
-      let k = kept-is rows cols row col q across ∙ and-both (leb (q / 3) row) (leb (q % 3) col) (le-leb (q / 3) row above) (le-leb (q % 3) col left) in
-      let w = lists-from (flat rows cols) tiles pieces (row * cols + col) t e q l k in (
+      let w = lists-from (flat rows cols) tiles pieces (numberOf cols k) t e q l (is-kept rows cols k q across above left) in (
         w .0,
         w .1,
-        agrees-from rows cols tiles pieces board (row - q / 3) (col - q % 3) (w .0) (omega arith)
-            (subst (λ (s : ℕ). Agrees (flat rows cols) tiles pieces s (w .0)) (start-is rows cols row col q across) (w .2)),
+        agrees-from rows cols tiles pieces board (startFor k q) (w .0) (omega arith)
+            (subst (λ (s : ℕ). Agrees (flat rows cols) tiles pieces s (w .0)) (start-is rows cols k q across) (w .2)),
         w .3,
       )
 
-  pub listed-to : ListedFlat rows cols tiles pieces row col t → lists (flat rows cols) tiles pieces (row * cols + col) t ≡ true
+  pub listed-to : ListedFlat rows cols tiles pieces k t → lists (flat rows cols) tiles pieces (numberOf cols k) t ≡ true
   unfolding Listed ListedFlat
-  listed-to h = lists-to (flat rows cols) tiles pieces (row * cols + col) t (λ q l k. at q l (sym (kept-is rows cols row col q across) ∙ k))
-    where
-      at : (q : ℕ) → q < 9 → (leb (q / 3) row && leb (q % 3) col) ≡ true
-          → (n : ℕ) × (n < tilesIn tiles) × Agrees (flat rows cols) tiles pieces (flat rows cols .start (row * cols + col) q) n × (getD tiles (n * 9 + q) 0 ≡ t)
-      at q l k =
-          let w = h q l (leb-true (q / 3) row (and-left (leb (q / 3) row) (leb (q % 3) col) k)) (leb-true (q % 3) col (and-right (leb (q / 3) row) (leb (q % 3) col) k)) in (
-            w .0,
-            w .1,
-            subst (λ (s : ℕ). Agrees (flat rows cols) tiles pieces s (w .0)) (sym (start-is rows cols row col q across))
-                (agrees-to rows cols tiles pieces board (row - q / 3) (col - q % 3) (w .0) (omega arith) (w .2)),
-            w .3,
-          )
+  listed-to h =
+      lists-to (flat rows cols) tiles pieces (numberOf cols k) t
+      (λ q l kept.
+      let both = sym (kept-is rows cols k q across) ∙ kept in
+      let w = h q l (leb-true (q / 3) (k .0) (and-left _ _ both)) (leb-true (q % 3) (k .1) (and-right (leb (q / 3) (k .0)) _ both)) in (
+        w .0,
+        w .1,
+        subst (λ (s : ℕ). Agrees (flat rows cols) tiles pieces s (w .0)) (sym (start-is rows cols k q across))
+            (agrees-to rows cols tiles pieces board (startFor k q) (w .0) (omega arith) (w .2)),
+        w .3,
+      ))

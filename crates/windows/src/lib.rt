@@ -1,19 +1,21 @@
 // Document 01, "Fit", for calls that have made the checks: how many tiles fit a region, and which colours fit a cell, by its nine windows.
 ghost use mathlib.Core.Path.{_≡_};
-ghost use mathlib.Core.Bool.{not, _&&_};
-ghost use Prim.Native.Nat.{ℕ, _+_, _*_, _^_, _<_, _≤_};
+ghost use mathlib.Core.Bool.{not};
+ghost use Prim.Native.Nat.{_+_, _*_, _^_, _<_, _≤_};
 ghost use lib.Dec.{eqb};
 ghost use lib.ListN.{length, getD};
 ghost use Rattle.base.specs.Counting.{pick};
-ghost use Rattle.rules.specs.Grid.{flat};
+ghost use Rattle.rules.specs.Grid.{cellAt, numberOf, flat};
 ghost use Rattle.rules.specs.Bounds.{maxColours, maxTiles};
 ghost use Rattle.rules.specs.Tests.{tilesIn};
-ghost use Rattle.rules.specs.Sets.{has, bitsOf};
+ghost use Rattle.rules.specs.Sets.{bitsOf};
 ghost use Rattle.rules.specs.Fit.{pattern, fitCount, serves, hasFitting, allows, windowOrder, lists, foundAt};
+ghost use Rattle.rules.specs.Promises.{before};
 ghost use Rattle.rules.specs.declared.Listing.the-variants.{Colours};
-ghost use Rattle.pattern.specs.Words.{Masked};
+ghost use Rattle.pattern.specs.Words.{shownBy, Masked};
 ghost use Rattle.pattern.specs.Ready.{Readable, OnGrid};
 ghost use Rattle.windows.specs.Ready.{Countable, Ready, Coloured};
+ghost use Rattle.windows.specs.Kept.{Keeps};
 use rules::Cell;
 use rules::Listing;
 use rules::TileBitset;
@@ -32,7 +34,7 @@ fn one_if(test: bool) -> u32
 fn fit_count(tiles: &[u8], window: &[u8; rules::TILE_CELLS], mask: &[u8; rules::TILE_CELLS]) -> u32
     requires { ⌜ tilesIn (now tiles) ≤ maxTiles ⌝ }
     requires { ⌜ Masked (now window) (now mask) ⌝ }
-    ensures { λ r. ⌜ r ≡ fitCount (now (tiles .entry)) (λ i. getD (now (window .entry)) i 0) ⌝ }
+    ensures { λ r. ⌜ r ≡ fitCount (before tiles) (shownBy (before window)) ⌝ }
 {
     let last = tiles.len() / rules::TILE_CELLS;
     if pattern::is_bare(window) {
@@ -58,7 +60,7 @@ pub fn fit_count_at(
 ) -> u32
     requires { ⌜ Countable (now pieces) rows cols (now tiles) ⌝ }
     requires { ⌜ OnGrid rows cols row col ⌝ }
-    ensures { λ r. ⌜ r ≡ fitCount (now (tiles .entry)) (pattern (flat rows cols) (now (pieces .entry)) (row * cols + col)) ⌝ }
+    ensures { λ r. ⌜ r ≡ fitCount (before tiles) (pattern (flat rows cols) (before pieces) (numberOf cols (cellAt row col))) ⌝ }
 {
     let window = pattern::window_at(pieces, rows, cols, row, col);
     let mask = pattern::masks_for(&window);
@@ -68,7 +70,7 @@ pub fn fit_count_at(
 // The set without colour t.
 fn without_colour(bits: u32, t: u32) -> u32
     requires { ⌜ t ≤ maxColours ⌝ }
-    ensures { λ r. ⌜ ((n : ℕ) → n ≤ maxColours → bits < 2 ^ n → r ≡ bitsOf n (λ u. has bits u && not (eqb u t))) ⌝ }
+    ensures { λ r. ⌜ Keeps bits (λ u. not (eqb u t)) r ⌝ }
 {
     let there = sets::common_colours(bits, sets::with_colour(0, t));
     bits - there
@@ -87,7 +89,7 @@ fn missing_past(
     requires { ⌜ Coloured (now tiles) ⌝ }
     requires { ⌜ Masked (now window) (now mask) ⌝ }
     requires { ⌜ q < 9 ⌝ }
-    ensures { λ r. ⌜ ((m : ℕ) → m ≤ maxColours → missing < 2 ^ m → r ≡ bitsOf m (λ t. has missing t && not (serves (now (tiles .entry)) (λ i. getD (now (window .entry)) i 0) q t n))) ⌝ }
+    ensures { λ r. ⌜ Keeps missing (λ t. not (serves (before tiles) (shownBy (before window)) q t n)) r ⌝ }
 {
     if !pattern::tile_fits(tiles, n, window, mask) {
         return missing;
@@ -107,7 +109,7 @@ fn window_colours(
     requires { ⌜ Coloured (now tiles) ⌝ }
     requires { ⌜ Masked (now window) (now mask) ⌝ }
     requires { ⌜ q < 9 ⌝ }
-    ensures { λ r. ⌜ ((n : ℕ) → n ≤ maxColours → left < 2 ^ n → r ≡ bitsOf n (λ t. has left t && hasFitting (now (tiles .entry)) (λ i. getD (now (window .entry)) i 0) q t)) ⌝ }
+    ensures { λ r. ⌜ Keeps left (hasFitting (before tiles) (shownBy (before window)) q) r ⌝ }
 {
     let end = tiles.len() / rules::TILE_CELLS;
     let mut missing = left;
@@ -138,7 +140,7 @@ fn narrowed(
     requires { ⌜ OnGrid rows cols row col ⌝ }
     requires { ⌜ Coloured (now tiles) ⌝ }
     requires { ⌜ q < 9 ⌝ }
-    ensures { λ r. ⌜ ((n : ℕ) → n ≤ maxColours → left < 2 ^ n → r ≡ bitsOf n (λ t. has left t && allows (flat rows cols) (now (tiles .entry)) (now (pieces .entry)) (row * cols + col) t q)) ⌝ }
+    ensures { λ r. ⌜ Keeps left (λ t. allows (flat rows cols) (before tiles) (before pieces) (numberOf cols (cellAt row col)) t q) r ⌝ }
 {
     if row < q / 3 {
         return left;
@@ -170,7 +172,7 @@ fn viable_colours(
 ) -> u32
     requires { ⌜ Ready (now pieces) rows cols (now tiles) count ⌝ }
     requires { ⌜ OnGrid rows cols row col ⌝ }
-    ensures { λ r. ⌜ r ≡ bitsOf count (lists (flat rows cols) (now (tiles .entry)) (now (pieces .entry)) (row * cols + col)) ⌝ }
+    ensures { λ r. ⌜ r ≡ bitsOf count (lists (flat rows cols) (before tiles) (before pieces) (numberOf cols (cellAt row col))) ⌝ }
 {
     let mut left = sets::all_colours(count);
     let mut i = 0;
@@ -195,7 +197,7 @@ pub fn viable_tiles_at(
 ) -> Listing
     requires { ⌜ Ready (now pieces) rows cols (now tiles) count ⌝ }
     requires { ⌜ OnGrid rows cols (cell .0) (cell .1) ⌝ }
-    ensures { λ r. ⌜ r ≡ Colours (foundAt (flat rows cols) (now (tiles .entry)) (now (pieces .entry)) count (cell .0 * cols + cell .1)) ⌝ }
+    ensures { λ r. ⌜ r ≡ Colours (foundAt (flat rows cols) (before tiles) (before pieces) count (numberOf cols cell)) ⌝ }
 {
     let bits = viable_colours(pieces, rows, cols, tiles, count, cell.0, cell.1);
     Listing::Colours(TileBitset {

@@ -1,11 +1,10 @@
 -- `fit::get_fraction` meets its contract: the checks, then the division. Assumes nothing.
-use mathlib.Core.Path.{refl, sym, _∙_}
+use mathlib.Core.Path.{sym, _∙_}
 use native.Mathlib.Omega.{arith}
-use Rattle.base.proofs.Answered.{refuses, told}
-use Rattle.rules.specs.Answers.{fractionAnswer}
+use Rattle.base.proofs.Chain.{chain}
 use Rattle.rules.specs.Scores.{fractionAt}
-use Rattle.rules.specs.declared.FractionAnswer.the-variants.{Refused}
-use Rattle.fit.proofs.Accepted.{accepted-counted}
+use Rattle.rules.proofs.Answered.{answers}
+use Rattle.fit.proofs.Accepted.{Counted, accepted-counted}
 use borrow.Author.Needs.{needs}
 use Rattle.fit.proofs.get_fraction.Statement.{statement}
 use Rattle.fit.proofs.get_fraction.Tie as tie
@@ -15,26 +14,24 @@ fraction-refused-requires c κs = search needs
 
 returns : tie.Need-returns
 unfolding fractionAt
-returns c = refuses fractionAnswer Refused (λ n a. refl) _ _ _ (c .before .fraction-refused .ensures) (c .if1 .taken)
+returns c = search (chain, answers) depth 20 fits 5000
+
+-- past the checks
+counted : (c : tie.Else1) → let a = c .before .before .before .args in Counted (a .counts .now) (a .rows) (a .cols) (a .tiles) (a .cell)
+counted c = accepted-counted _ _ _ _ _ (sym (c .before .fraction-refused .ensures) ∙ c .if1 .left)
 
 mul-fraction-of : tie.Need-mul-fraction-of
-mul-fraction-of c = let a = c .before .before .before .before .args in
-    let k = accepted-counted (a .counts .now) (a .rows) (a .cols) (a .tiles) (a .cell) (sym (c .before .before .fraction-refused .ensures) ∙ c .before .if1 .left) in
-    record { fits = omega arith }
+mul-fraction-of c = let k = counted (c .before) in record { fits = omega arith }
 
 add-fraction-of : tie.Need-add-fraction-of
-add-fraction-of c = let a = c .before .before .before .before .before .args in
-    let k = accepted-counted (a .counts .now) (a .rows) (a .cols) (a .tiles) (a .cell) (sym (c .before .before .before .fraction-refused .ensures) ∙ c .before .before .if1 .left) in
-    record { fits = omega arith }
+add-fraction-of c = let k = counted (c .before .before) in record { fits = omega arith }
 
 fraction-of-requires : tie.Need-fraction-of-requires
-fraction-of-requires c κs = let a = c .before .before .before .before .before .args in
-    let k = accepted-counted (a .counts .now) (a .rows) (a .cols) (a .tiles) (a .cell) (sym (c .before .before .before .fraction-refused .ensures) ∙ c .before .before .if1 .left) in
-    (omega arith, k .few)
+fraction-of-requires c κs = let k = counted (c .before .before) in (omega arith, k .few)
 
 returns-2 : tie.Need-returns-2
 unfolding fractionAt
-returns-2 c = told fractionAnswer _ (sym (c .before .before .before .if1 .left) ∙ c .before .before .before .before .fraction-refused .ensures) (c .fraction-of .ensures)
+returns-2 c = search (chain, answers) depth 20 fits 5000
 
 pub get-fraction-spec : {M : Type 1} → statement M
 get-fraction-spec =

@@ -1,8 +1,7 @@
 -- `fit::pieces_refused` meets its contract: three checks, then those of the colours. Assumes nothing.
-use mathlib.Core.Path.{_∙_, ap}
 use Rattle.base.proofs.Bools.{passes}
-use Rattle.base.proofs.Chain.{refuse, pass}
-use Rattle.rules.specs.Tests.{hasLength}
+use Rattle.base.proofs.Chain.{chain}
+use Rattle.checks.proofs.Lengths.{length-as}
 use borrow.Author.Needs.{needs}
 use Rattle.fit.proofs.pieces_refused.Statement.{statement}
 use Rattle.fit.proofs.pieces_refused.Tie as tie
@@ -11,7 +10,7 @@ board-sides-requires : tie.Need-board-sides-requires
 board-sides-requires c κs = search needs
 
 returns : tie.Need-returns
-returns c = refuse _ _ (c .before .board-sides .ensures) (c .if1 .taken)
+returns c = search chain depth 20 fits 5000
 
 cells-of-requires : tie.Need-cells-of-requires
 cells-of-requires c κs = passes _ (c .before .board-sides .ensures) (c .if1 .left)
@@ -20,27 +19,19 @@ words-have-length-requires : tie.Need-words-have-length-requires
 words-have-length-requires c κs = search needs
 
 returns-2 : tie.Need-returns-2
-returns-2 c = pass _ _ _ (c .before .before .before .before .board-sides .ensures) (c .before .before .before .if1 .left)
-    (refuse _ _ (c .before .words-have-length .ensures ∙ ap (hasLength (c .before .before .before .before .before .before .before .args .pieces .now)) (c .before .before .cells-of .ensures)) (c .if2 .taken))
+returns-2 c = search (chain, length-as) depth 20 fits 5000
 
 whole-tiles-requires : tie.Need-whole-tiles-requires
 whole-tiles-requires c κs = search needs
 
 returns-3 : tie.Need-returns-3
-returns-3 c = pass _ _ _ (c .before .before .before .before .before .before .board-sides .ensures) (c .before .before .before .before .before .if1 .left)
-    (pass _ _ _ (c .before .before .before .words-have-length .ensures ∙ ap (hasLength (c .before .before .before .before .before .before .before .before .before .args .pieces .now)) (c .before .before .before .before .cells-of .ensures)) (c .before .before .if2 .left)
-    (refuse _ _ (c .before .whole-tiles .ensures) (c .if3 .taken)))
+returns-3 c = search (chain, length-as) depth 20 fits 5000
 
 colours-refused-requires : tie.Need-colours-refused-requires
 colours-refused-requires c κs = search needs
 
 returns-4 : tie.Need-returns-4
-returns-4 c =
-    let e = c .before in
-    pass _ _ _ (e .before .before .before .before .before .before .board-sides .ensures) (e .before .before .before .before .before .if1 .left)
-    (pass _ _ _ (e .before .before .before .words-have-length .ensures ∙ ap (hasLength (e .before .before .before .before .before .before .before .before .before .args .pieces .now)) (e .before .before .before .before .cells-of .ensures)) (e .before .before .if2 .left)
-    (pass _ _ _ (e .before .whole-tiles .ensures) (e .if3 .left)
-    (c .colours-refused .ensures)))
+returns-4 c = search (chain, length-as) depth 20 fits 5000
 
 pub pieces-refused-spec : {M : Type 1} → statement M
 pieces-refused-spec =

@@ -1,15 +1,14 @@
 -- `pattern::masks_for` meets its contract. The loop's invariant: the places passed hold their masks. Assumes nothing.
 use Prim.Native.Nat.{_-_, _≤_}
 use mathlib.Core.Path.{_≡_, _∙_}
-use lib.ListN.{getD}
 use Rattle.base.proofs.Swept.{swept, swept-none, swept-turn, swept-all}
-use Rattle.pattern.specs.Words.{maskOf}
+use Rattle.pattern.specs.Words.{shownBy, maskOf}
 use borrow.Author.Needs.{needs}
 use Rattle.pattern.proofs.masks_for.Statement.{statement}
 use Rattle.pattern.proofs.masks_for.Tie as tie
 
 abbrev Inv-loop : tie.InvT-loop
-Inv-loop window masks₀ k₀ masks k = (k ≤ 9) × (masks ≡ swept 0 k (λ j. maskOf (getD window j 0)) masks₀)
+Inv-loop window masks₀ k₀ masks k = (k ≤ 9) × (masks ≡ swept 0 k (λ i. maskOf (shownBy window i)) masks₀)
 
 abbrev μ-loop : tie.MeasureT-loop
 μ-loop window masks₀ k₀ masks k = 9 - k
@@ -33,9 +32,12 @@ loop-less : tie.Need-loop-less Inv-loop μ-loop
 loop-less c = search needs
 
 loop-again : tie.Need-loop-again Inv-loop μ-loop
-loop-again c = let a = c .before .before .before .before .args in
-    let l = c .before .before .before .loop in
-    (search needs, swept-turn 0 (l .masks) _ (l .k) (λ i. maskOf (getD (a .window .now) i 0)) (c .mask-for .result) (search needs) (l .inv .1) (c .mask-for .ensures))
+loop-again c =
+    let a = c .before .before .before .before .args in
+    let l = c .before .before .before .loop in (
+      search needs,
+      swept-turn 0 (l .masks) _ (l .k) (λ i. maskOf (shownBy (a .window .now) i)) (c .mask-for .result) (search needs) (l .inv .1) (c .mask-for .ensures),
+    )
 
 returns : tie.Need-returns Inv-loop μ-loop
 returns c = c .before .loop .inv .1 ∙ swept-all 0 (c .before .loop .k) _ _ (c .loop-test .left)

@@ -1,16 +1,18 @@
 -- `pattern::window_at` meets its contract. The loop's invariant: the places passed hold their colours. Assumes nothing.
-use Prim.Native.Nat.{_+_, _-_, _*_, _≤_}
+use Prim.Native.Nat.{_-_, _≤_}
 use mathlib.Core.Path.{_≡_, _∙_}
 use Rattle.base.proofs.Swept.{swept, swept-none, swept-turn, swept-all}
-use Rattle.rules.specs.Grid.{flat}
+use Rattle.rules.specs.Grid.{cellAt, numberOf, flat}
 use Rattle.rules.specs.Fit.{pattern}
-use Rattle.pattern.proofs.Windows.{pattern-is}
+use Rattle.rules.specs.declared.Cell.{Cell}
+use Rattle.pattern.proofs.Flat.{pattern-is}
 use borrow.Author.Needs.{needs}
 use Rattle.pattern.proofs.window_at.Statement.{statement}
 use Rattle.pattern.proofs.window_at.Tie as tie
 
 abbrev Inv-loop : tie.InvT-loop
-Inv-loop pieces rows cols row col window₀ i₀ window i = (i ≤ 9) × (window ≡ swept 0 i (pattern (flat rows cols) pieces (row * cols + col)) window₀)
+Inv-loop pieces rows cols row col window₀ i₀ window i =
+    (i ≤ 9) × (window ≡ swept 0 i (pattern (flat rows cols) pieces (numberOf cols (cellAt row col))) window₀)
 
 abbrev μ-loop : tie.MeasureT-loop
 μ-loop pieces rows cols row col window₀ i₀ window i = 9 - i
@@ -37,9 +39,14 @@ loop-less : tie.Need-loop-less Inv-loop μ-loop
 loop-less c = search needs
 
 loop-again : tie.Need-loop-again Inv-loop μ-loop
-loop-again c = let a = c .before .before .before .before .args in
+loop-again c =
+    let a = c .before .before .before .before .args in
     let l = c .before .before .loop in
-    (search needs, swept-turn 0 (l .window) _ (l .i) (pattern (flat (a .rows) (a .cols)) (a .pieces .now) (a .row * a .cols + a .col)) (c .colour-at .result) (search needs) (l .inv .1) (c .colour-at .ensures ∙ pattern-is (a .pieces .now) (a .rows) (a .cols) (a .row) (a .col) (l .i) (search needs)))
+    let cell : Cell = cellAt (a .row) (a .col) in (
+      search needs,
+      swept-turn 0 (l .window) _ (l .i) (pattern (flat (a .rows) (a .cols)) (a .pieces .now) (numberOf (a .cols) cell)) (c .colour-at .result)
+          (search needs) (l .inv .1) (c .colour-at .ensures ∙ pattern-is (a .rows) (a .cols) cell (l .i) (search needs) (a .pieces .now)),
+    )
 
 returns : tie.Need-returns Inv-loop μ-loop
 returns c = c .before .loop .inv .1 ∙ swept-all 0 (c .before .loop .i) _ _ (c .loop-test .left)

@@ -1,22 +1,23 @@
 -- `windows::fit_count` meets its contract. The loop's invariant: the count is that of the tiles passed. Assumes nothing.
-use Prim.Native.Nat.{ℕ, _+_, _-_, _/_, _≤_}
+use Prim.Native.Nat.{ℕ, _+_, _-_, _≤_}
 use mathlib.Core.Path.{_≡_, sym, _∙_}
 use native.Mathlib.Omega.{arith}
-use lib.ListN.{length, getD}
 use mathlib.Core.Bool.{Bool}
 use Rattle.base.specs.Counting.{tally}
 use Rattle.base.proofs.Counted.{tally-le}
+use Rattle.rules.specs.Tests.{tilesIn}
 use Rattle.rules.specs.Fit.{fitsTile, fitCount}
+use Rattle.pattern.specs.Words.{shownBy}
 use Rattle.windows.proofs.Fitting.{bare-fits, tally-turn, tally-done}
 use borrow.Author.Needs.{needs}
 use Rattle.windows.proofs.fit_count.Statement.{statement}
 use Rattle.windows.proofs.fit_count.Tie as tie
 
 abbrev Inv-loop : tie.InvT-loop
-Inv-loop tiles window mask last count₀ n₀ count n = (n ≤ length tiles / 9) × (count ≡ tally n (fitsTile tiles (λ i. getD window i 0)))
+Inv-loop tiles window mask last count₀ n₀ count n = (n ≤ tilesIn tiles) × (count ≡ tally n (fitsTile tiles (shownBy window)))
 
 abbrev μ-loop : tie.MeasureT-loop
-μ-loop tiles window mask last count₀ n₀ count n = length tiles / 9 - n
+μ-loop tiles window mask last count₀ n₀ count n = tilesIn tiles - n
 
 is-bare-requires : tie.Need-is-bare-requires Inv-loop μ-loop
 is-bare-requires c κs = search needs
@@ -25,7 +26,7 @@ cast-result : tie.Need-cast-result Inv-loop μ-loop
 cast-result c = search needs
 
 returns : tie.Need-returns Inv-loop μ-loop
-returns c = bare-fits (c .before .before .before .args .tiles .now) (λ i. getD (c .before .before .before .args .window .now) i 0) (sym (c .before .is-bare .ensures) ∙ c .if1 .taken)
+returns c = bare-fits _ _ (sym (c .before .is-bare .ensures) ∙ c .if1 .taken)
 
 loop-holds : tie.Need-loop-holds Inv-loop μ-loop
 unfolding tally
@@ -40,7 +41,7 @@ one-if-requires c κs = search needs
 add-count : tie.Need-add-count Inv-loop μ-loop
 add-count c = let a = c .before .before .before .before .before .before .before .args in
     let l = c .before .before .before .loop in
-    let f : ℕ → Bool = fitsTile (a .tiles .now) (λ i. getD (a .window .now) i 0) in
+    let f : ℕ → Bool = fitsTile (a .tiles .now) (shownBy (a .window .now)) in
     let t : l .count + c .one-if .result ≡ tally (l .n + 1) f = tally-turn f (l .inv .1) (c .before .tile-fits .ensures) (c .one-if .ensures) in
     record { fits = omega (arith, tally-le f (l .n + 1)) }
 
@@ -53,7 +54,7 @@ loop-less c = search needs
 loop-again : tie.Need-loop-again Inv-loop μ-loop
 loop-again c = let a = c .before .before .before .before .before .before .before .args in
     let l = c .before .before .before .loop in
-    (search needs, tally-turn (fitsTile (a .tiles .now) (λ i. getD (a .window .now) i 0)) (l .inv .1) (c .before .tile-fits .ensures) (c .one-if .ensures))
+    (search needs, tally-turn (fitsTile (a .tiles .now) (shownBy (a .window .now))) (l .inv .1) (c .before .tile-fits .ensures) (c .one-if .ensures))
 
 returns-2 : tie.Need-returns-2 Inv-loop μ-loop
 unfolding fitCount

@@ -1,8 +1,6 @@
 -- `windows::missing_past` meets its contract: a tile that does not fit takes nothing away, one that fits its colour at q. Assumes nothing.
 use Prim.Native.Nat.{_+_, _*_}
-use mathlib.Core.Path.{_∙_}
 use native.Mathlib.Omega.{arith}
-use lib.ListN.{getD}
 use Rattle.base.proofs.Bools.{fails, passes}
 use Rattle.windows.proofs.Lists.{past-misfit, past-fitting}
 use borrow.Author.Needs.{needs}
@@ -13,8 +11,7 @@ tile-fits-requires : tie.Need-tile-fits-requires
 tile-fits-requires c κs = search needs
 
 returns : tie.Need-returns
-returns c = λ m few fit. let a = c .before .before .before .args in
-    past-misfit (a .tiles .now) (λ i. getD (a .window .now) i 0) (a .q) (a .n) (a .missing) m fit (fails _ (c .before .tile-fits .ensures) (c .if1 .taken))
+returns c = past-misfit _ _ _ _ (fails _ (c .before .tile-fits .ensures) (c .if1 .taken))
 
 mul-without-colour : tie.Need-mul-without-colour
 mul-without-colour c = search needs
@@ -26,14 +23,17 @@ shared-slice-read-without-colour : tie.Need-shared-slice-read-without-colour
 shared-slice-read-without-colour c = search needs
 
 cast-without-colour : tie.Need-cast-without-colour
-cast-without-colour c = record { fits = omega (arith, c .shared-slice-known2 .given (c .before .before .before .before .args .n * 9 + c .before .before .before .before .args .q)) }
+cast-without-colour c =
+    let a = c .before .before .before .before .args in
+    record { fits = omega (arith, c .shared-slice-known2 .given (a .n * 9 + a .q)) }
 
 without-colour-requires : tie.Need-without-colour-requires
-without-colour-requires c κs = c .before .before .before .before .pre .1 .0 .known (c .before .before .before .before .args .n * 9 + c .before .before .before .before .args .q) (omega arith)
+without-colour-requires c κs =
+    let a = c .before .before .before .before .args in
+    c .before .before .before .before .pre .1 .0 .known (a .n * 9 + a .q) (omega arith)
 
 returns-2 : tie.Need-returns-2
-returns-2 c = λ m few fit. let a = c .before .before .before .before .before .args in
-    c .without-colour .ensures m few fit ∙ past-fitting (a .tiles .now) (λ i. getD (a .window .now) i 0) (a .q) (a .n) (a .missing) m fit (passes _ (c .before .before .before .tile-fits .ensures) (c .before .before .if1 .left))
+returns-2 c = past-fitting _ _ _ _ (passes _ (c .before .before .before .tile-fits .ensures) (c .before .before .if1 .left)) (c .without-colour .ensures)
 
 pub missing-past-spec : {M : Type 1} → statement M
 missing-past-spec =

@@ -1,29 +1,25 @@
 -- `windows::window_colours` meets its contract. The loop's invariant: missing are the colours that no tile passed serves. Assumes nothing.
-use Prim.Native.Nat.{ℕ, _-_, _/_, _^_, _<_, _≤_}
-use mathlib.Core.Path.{_≡_, _∙_}
-use native.Mathlib.Omega.{arith}
-use lib.ListN.{length, getD}
-use Rattle.rules.specs.Bounds.{maxColours}
-use Rattle.sets.proofs.Digits.{bits-lt}
-use Rattle.windows.proofs.Lists.{missingAfter, missing-first, missing-turn, missing-le, missing-end, missing-none}
+use Prim.Native.Nat.{_-_, _≤_}
+use Rattle.rules.specs.Tests.{tilesIn}
+use Rattle.pattern.specs.Words.{shownBy}
+use Rattle.windows.specs.Kept.{Keeps}
+use Rattle.windows.proofs.Kept.{keeps-le}
+use Rattle.windows.proofs.Lists.{unserved, missing-first, missing-turn, missing-end, missing-none}
 use borrow.Author.Needs.{needs}
 use Rattle.windows.proofs.window_colours.Statement.{statement}
 use Rattle.windows.proofs.window_colours.Tie as tie
 
 abbrev Inv-loop : tie.InvT-loop
-Inv-loop left tiles window mask q last missing₀ n₀ missing n = (n ≤ length tiles / 9) × ((m : ℕ) → m ≤ maxColours → left < 2 ^ m → missing ≡ missingAfter tiles (λ i. getD window i 0) q left m n)
+Inv-loop left tiles window mask q last missing₀ n₀ missing n = (n ≤ tilesIn tiles) × Keeps left (unserved tiles (shownBy window) q n) missing
 
 abbrev μ-loop : tie.MeasureT-loop
-μ-loop left tiles window mask q last missing₀ n₀ missing n = length tiles / 9 - n
+μ-loop left tiles window mask q last missing₀ n₀ missing n = tilesIn tiles - n
 
 loop-holds : tie.Need-loop-holds Inv-loop μ-loop
-loop-holds c = let a = c .before .args in
-    (search needs, λ m few fit. missing-first (a .tiles .now) (λ i. getD (a .window .now) i 0) (a .q) (a .left) m fit)
+loop-holds c = (search needs, missing-first _ _ _)
 
 returns : tie.Need-returns Inv-loop μ-loop
-returns c = λ m few fit. let a = c .before .before .before .before .args in
-    let l = c .before .before .loop in
-    missing-none (a .tiles .now) (λ i. getD (a .window .now) i 0) (a .q) (a .left) m fit (l .n) (l .missing) (l .inv .0) (l .inv .1 m few fit) (c .if1 .taken)
+returns c = let l = c .before .before .loop in missing-none _ _ _ (l .inv .0) (l .inv .1) (c .if1 .taken)
 
 missing-past-requires : tie.Need-missing-past-requires Inv-loop μ-loop
 missing-past-requires c κs = search needs
@@ -35,23 +31,13 @@ loop-less : tie.Need-loop-less Inv-loop μ-loop
 loop-less c = search needs
 
 loop-again : tie.Need-loop-again Inv-loop μ-loop
-loop-again c = let a = c .before .before .before .before .before .args in
-    let l = c .before .before .before .loop in (
-      search needs,
-      λ m few fit.
-          let e = l .inv .1 m few fit in
-          c .missing-past .ensures m few (rw e (bits-lt m _)) ∙ missing-turn (a .tiles .now) (λ i. getD (a .window .now) i 0) (a .q) (a .left) m fit (l .n) (l .missing) e,
-    )
+loop-again c = (search needs, missing-turn _ _ _ _ (c .before .before .before .loop .inv .1) (c .missing-past .ensures))
 
 sub-result : tie.Need-sub-result Inv-loop μ-loop
-sub-result c = let a = c .before .before .before .args in
-    let l = c .before .loop in
-    missing-le (a .tiles .now) (λ i. getD (a .window .now) i 0) (a .q) (a .left) 30 (search needs) (l .n) (l .missing) (l .inv .1 30 (search needs) (search needs))
+sub-result c = keeps-le (c .before .before .before .pre .0) (c .before .loop .inv .1)
 
 returns-2 : tie.Need-returns-2 Inv-loop μ-loop
-returns-2 c = λ m few fit. let a = c .before .before .before .args in
-    let l = c .before .loop in
-    omega (arith, missing-end (a .tiles .now) (λ i. getD (a .window .now) i 0) (a .q) (a .left) m fit (l .n) (l .missing) (l .inv .0) (c .loop-test .left) (l .inv .1 m few fit))
+returns-2 c = let l = c .before .loop in missing-end _ _ _ (l .inv .0) (c .loop-test .left) (l .inv .1)
 
 pub window-colours-spec : {M : Type 1} → statement M
 window-colours-spec =
