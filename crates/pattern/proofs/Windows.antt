@@ -17,7 +17,7 @@ use Rattle.rules.specs.Bounds.{maxCells}
 use Rattle.rules.specs.Grid.{cellAt, numberOf, colourOn}
 use Rattle.rules.specs.declared.Cell.{Cell}
 use Rattle.pattern.specs.Ready.{Readable, OnGrid}
-use Rattle.pattern.specs.Words.{shown, maskOf, Masked}
+use Rattle.pattern.specs.Words.{shownBy, maskOf, Masked}
 
 pub record Inside (pieces : List ℕ) (cols : ℕ) (cell : Cell) : Type 0 where
   pub below : numberOf cols cell < length pieces
@@ -34,12 +34,12 @@ bare-past pieces n k e q =
     sym (ap (λ (x : ℕ). x - 1) (List·getD-eq-default pieces 0 p))
 
 -- nine colours that were read are the window's
-pub read-is : (w : List ℕ) (f : ℕ → ℕ) → w ≡ tab 9 f → (i : ℕ) → i < 9 → shown w i ≡ f i
+pub read-is : (w : List ℕ) (f : ℕ → ℕ) → w ≡ tab 9 f → (i : ℕ) → i < 9 → shownBy w i ≡ f i
 read-is w f e i l = ap (λ (x : List ℕ). getD x i 0) e ∙ getD-tab 9 f i 0 l
 
 -- nine colours with their masks, as they were read
 pub read-masked : {pieces : List ℕ} {rows cols : ℕ} {window mask : List ℕ} (place : ℕ → ℕ) → Readable pieces rows cols
-    → window ≡ tab 9 (λ i. colourOn pieces (place i)) → mask ≡ tab 9 (λ i. maskOf (shown window i)) → Masked window mask
+    → window ≡ tab 9 (λ i. colourOn pieces (place i)) → mask ≡ tab 9 (λ i. maskOf (shownBy window i)) → Masked window mask
 read-masked {pieces} {rows} {cols} {window} {mask} place board e m =
     record { cells = record { low = λ i l. rw (read-is window _ e i l) (low (place i)) }; masks = read-is mask _ m }
   where

@@ -21,7 +21,7 @@ use Rattle.base.specs.Counting.{pick, every}
 use Rattle.base.proofs.Bools.{and-left, and-right, and-both, or-left, by-test, same-test}
 use Rattle.base.proofs.Counted.{every-ext}
 use Rattle.rules.specs.Fit.{agrees, agreesAt, fitsTile}
-use Rattle.pattern.specs.Words.{shown, cellsFrom, word, maskOf, Cells, Masked}
+use Rattle.pattern.specs.Words.{shownBy, cellsFrom, word, maskOf, Cells, Masked}
 
 pub word-ext : (n : ℕ) (f g : ℕ → ℕ) → ((i : ℕ) → i < n → f i ≡ g i) → word n f ≡ word n g
 unfolding word
@@ -41,7 +41,9 @@ unfolding word
 word-join m zero f = ap (λ (k : ℕ). word k f) (add-zero m) ∙ omega arith
 word-join m (suc n) f =
     ap (λ (k : ℕ). word k f) (add-suc m n)
-    ∙ ap₂ (λ (a b : ℕ). f (m + n) * a + b) (ap (λ (k : ℕ). 2 ^ k) (let e : 8 * (m + n) ≡ 8 * n + 8 * m = omega arith in e) ∙ pow-add 2 (8 * n) (8 * m)) (word-join m n f)
+    ∙ ap₂ (λ (a b : ℕ). f (m + n) * a + b)
+    (ap (λ (k : ℕ). 2 ^ k) (let e : 8 * (m + n) ≡ 8 * n + 8 * m = omega arith in e) ∙ pow-add 2 (8 * n) (8 * m))
+    (word-join m n f)
     ∙ gather (f (m + n)) (2 ^ (8 * n)) (2 ^ (8 * m)) (word n (λ i. f (m + i))) (word m f)
   where
     gather : (a p q b d : ℕ) → a * (p * q) + (b * q + d) ≡ (a * p + b) * q + d
@@ -59,7 +61,7 @@ joined m n cells at p q =
     (ap (λ (x : ℕ). x * 2 ^ (8 * m) + word m (cellsFrom cells at)) (word-ext n _ _ (λ i l. ap (λ (k : ℕ). getD cells k 0) (add-assoc at m i)))
     ∙ sym (word-join m n (cellsFrom cells at)))
 
-pub from-first : (n : ℕ) (cells : List ℕ) → word n (cellsFrom cells 0) ≡ word n (shown cells)
+pub from-first : (n : ℕ) (cells : List ℕ) → word n (cellsFrom cells 0) ≡ word n (shownBy cells)
 from-first n cells = word-ext n _ _ (λ i l. ap (λ (k : ℕ). getD cells k 0) (zero-add i))
 
 pub word-none : (n : ℕ) → word n (λ i. 0) ≡ 0
@@ -81,14 +83,16 @@ digit-eq p a b r s l m = same-test _ _ from to
     to e =
         eq-eqb _ _ (ap₂ (λ (x y : ℕ). x * p + y) (eqb-true a b (and-right (eqb r s) (eqb a b) e)) (eqb-true r s (and-left (eqb r s) (eqb a b) e)))
 
-pub word-eq : (n : ℕ) (f g : ℕ → ℕ) → ((i : ℕ) → i < n → f i < 256) → ((i : ℕ) → i < n → g i < 256) → eqb (word n f) (word n g) ≡ every n (λ i. eqb (f i) (g i))
+pub word-eq : (n : ℕ) (f g : ℕ → ℕ) → ((i : ℕ) → i < n → f i < 256) → ((i : ℕ) → i < n → g i < 256)
+    → eqb (word n f) (word n g) ≡ every n (λ i. eqb (f i) (g i))
 unfolding word every
 word-eq zero f g h k = refl
 word-eq (suc n) f g h k =
     digit-eq (2 ^ (8 * n)) (f n) (g n) (word n f) (word n g) (word-lt n f (λ i l. h i (le-step l))) (word-lt n g (λ i l. k i (le-step l)))
     ∙ ap (λ (b : Bool). b && eqb (f n) (g n)) (word-eq n f g (λ i l. h i (le-step l)) (λ i l. k i (le-step l)))
 
-pub and-word : (n : ℕ) (f g : ℕ → ℕ) → ((i : ℕ) → i < n → f i < 256) → ((i : ℕ) → i < n → g i < 256) → bitAnd (word n f) (word n g) ≡ word n (λ i. bitAnd (f i) (g i))
+pub and-word : (n : ℕ) (f g : ℕ → ℕ) → ((i : ℕ) → i < n → f i < 256) → ((i : ℕ) → i < n → g i < 256)
+    → bitAnd (word n f) (word n g) ≡ word n (λ i. bitAnd (f i) (g i))
 unfolding word
 and-word zero f g h k = and-zero-l 0
 and-word (suc n) f g h k =
@@ -119,39 +123,45 @@ masked colour cell l = by-test (eqb colour 0) bare laid
 
 -- eight cells in one number, and the ninth
 pub masked-fits : (tiles window mask : List ℕ) (n : ℕ) → Masked window mask → ((i : ℕ) → getD tiles i 0 < 256)
-    → (eqb (bitAnd (word 8 (cellsFrom tiles (n * 9))) (word 8 (shown mask))) (word 8 (shown window))
-    && eqb (bitAnd (cellsFrom tiles (n * 9) 8) (shown mask 8)) (shown window 8)) ≡ fitsTile tiles (shown window) n
+    → (eqb (bitAnd (word 8 (cellsFrom tiles (n * 9))) (word 8 (shownBy mask))) (word 8 (shownBy window))
+    && eqb (bitAnd (cellsFrom tiles (n * 9) 8) (shownBy mask 8)) (shownBy window 8)) ≡ fitsTile tiles (shownBy window) n
 unfolding fitsTile every
 masked-fits tiles window mask n k low = ap₂ _&&_ eight (at 8 (omega arith))
   where
-    at : (i : ℕ) → i < 9 → eqb (bitAnd (cellsFrom tiles (n * 9) i) (shown mask i)) (shown window i) ≡ agreesAt tiles (shown window) n i
-    at i l = ap (λ (m : ℕ). eqb (bitAnd (cellsFrom tiles (n * 9) i) m) (shown window i)) (k .masks i l) ∙ masked (shown window i) (cellsFrom tiles (n * 9) i) (low (n * 9 + i))
+    at : (i : ℕ) → i < 9 → eqb (bitAnd (cellsFrom tiles (n * 9) i) (shownBy mask i)) (shownBy window i) ≡ agreesAt tiles (shownBy window) n i
+    at i l =
+        ap (λ (m : ℕ). eqb (bitAnd (cellsFrom tiles (n * 9) i) m) (shownBy window i)) (k .masks i l)
+        ∙ masked (shownBy window i) (cellsFrom tiles (n * 9) i) (low (n * 9 + i))
 
-    small : (i : ℕ) → i < 8 → shown mask i < 256
-    small i l = rw (k .masks i (omega arith)) (mask-lt (eqb (shown window i) 0))
+    small : (i : ℕ) → i < 8 → shownBy mask i < 256
+    small i l = rw (k .masks i (omega arith)) (mask-lt (eqb (shownBy window i) 0))
 
-    eight : eqb (bitAnd (word 8 (cellsFrom tiles (n * 9))) (word 8 (shown mask))) (word 8 (shown window)) ≡ every 8 (agreesAt tiles (shown window) n)
+    eight : eqb (bitAnd (word 8 (cellsFrom tiles (n * 9))) (word 8 (shownBy mask))) (word 8 (shownBy window))
+        ≡ every 8 (agreesAt tiles (shownBy window) n)
     eight =
-        ap (λ (x : ℕ). eqb x (word 8 (shown window))) (and-word 8 (cellsFrom tiles (n * 9)) (shown mask) (λ i l. low (n * 9 + i)) small)
-        ∙ word-eq 8 _ _ (λ i l. and-lt 8 (cellsFrom tiles (n * 9) i) (shown mask i) (low (n * 9 + i)) (small i l)) (λ i l. k .cells .low i (omega arith))
+        ap (λ (x : ℕ). eqb x (word 8 (shownBy window))) (and-word 8 (cellsFrom tiles (n * 9)) (shownBy mask) (λ i l. low (n * 9 + i)) small)
+        ∙ word-eq 8 _ _ (λ i l. and-lt 8 (cellsFrom tiles (n * 9) i) (shownBy mask i) (low (n * 9 + i)) (small i l)) (λ i l. k .cells .low i (omega arith))
         ∙ every-ext _ _ 8 (λ i l. at i (omega arith))
 
 -- eight cells and the ninth are all 0
-pub bare-cells : (window : List ℕ) → Cells window → (eqb (word 8 (shown window)) 0 && eqb (shown window 8) 0) ≡ every 9 (λ i. eqb (shown window i) 0)
+pub bare-cells : (window : List ℕ) → Cells window → (eqb (word 8 (shownBy window)) 0 && eqb (shownBy window 8) 0) ≡ every 9 (λ i. eqb (shownBy window i) 0)
 unfolding every
 bare-cells window k =
-    ap (λ (b : Bool). b && eqb (shown window 8) 0)
-    (ap (λ (z : ℕ). eqb (word 8 (shown window)) z) (sym (word-none 8)) ∙ word-eq 8 (shown window) (λ i. 0) (λ i l. k .low i (omega arith)) (λ i l. omega arith))
+    ap (λ (b : Bool). b && eqb (shownBy window 8) 0)
+    (ap (λ (z : ℕ). eqb (word 8 (shownBy window)) z) (sym (word-none 8))
+    ∙ word-eq 8 (shownBy window) (λ i. 0) (λ i l. k .low i (omega arith)) (λ i l. omega arith))
 
 -- a tile that differs within the first eight cells does not fit; where it does not differ there, the ninth decides
 pub left-there : (tiles window mask : List ℕ) (n : ℕ) → Masked window mask → ((i : ℕ) → getD tiles i 0 < 256)
-    → (bitAnd (word 8 (cellsFrom tiles (n * 9))) (word 8 (shown mask)) ≡ word 8 (shown window) → ⊥)
-    → false ≡ fitsTile tiles (shown window) n
+    → (bitAnd (word 8 (cellsFrom tiles (n * 9))) (word 8 (shownBy mask)) ≡ word 8 (shownBy window) → ⊥)
+    → false ≡ fitsTile tiles (shownBy window) n
 left-there tiles window mask n k low h =
-    sym (ap (λ (b : Bool). b && eqb (bitAnd (cellsFrom tiles (n * 9) 8) (shown mask 8)) (shown window 8)) (ne-eqb _ _ h)) ∙ masked-fits tiles window mask n k low
+    sym (ap (λ (b : Bool). b && eqb (bitAnd (cellsFrom tiles (n * 9) 8) (shownBy mask 8)) (shownBy window 8)) (ne-eqb _ _ h))
+    ∙ masked-fits tiles window mask n k low
 
 pub ninth-decides : (tiles window mask : List ℕ) (n : ℕ) → Masked window mask → ((i : ℕ) → getD tiles i 0 < 256)
-    → bitAnd (word 8 (cellsFrom tiles (n * 9))) (word 8 (shown mask)) ≡ word 8 (shown window)
-    → eqb (bitAnd (cellsFrom tiles (n * 9) 8) (shown mask 8)) (shown window 8) ≡ fitsTile tiles (shown window) n
+    → bitAnd (word 8 (cellsFrom tiles (n * 9))) (word 8 (shownBy mask)) ≡ word 8 (shownBy window)
+    → eqb (bitAnd (cellsFrom tiles (n * 9) 8) (shownBy mask 8)) (shownBy window 8) ≡ fitsTile tiles (shownBy window) n
 ninth-decides tiles window mask n k low h =
-    sym (ap (λ (b : Bool). b && eqb (bitAnd (cellsFrom tiles (n * 9) 8) (shown mask 8)) (shown window 8)) (eq-eqb _ _ h)) ∙ masked-fits tiles window mask n k low
+    sym (ap (λ (b : Bool). b && eqb (bitAnd (cellsFrom tiles (n * 9) 8) (shownBy mask 8)) (shownBy window 8)) (eq-eqb _ _ h))
+    ∙ masked-fits tiles window mask n k low

@@ -8,8 +8,8 @@ use Rattle.base.specs.Counting.{pick}
 use Rattle.rules.specs.Bounds.{tileCells}
 
 -- the colour at each place of a window that was read
-abbrev pub shown : List ℕ → ℕ → ℕ
-shown window i = getD window i 0
+abbrev pub shownBy : List ℕ → ℕ → ℕ
+shownBy window i = getD window i 0
 
 -- the cells of a list from one on
 abbrev pub cellsFrom : List ℕ → ℕ → ℕ → ℕ
@@ -25,9 +25,9 @@ maskOf colour = pick (eqb colour 0) 0 255
 
 -- nine cells, each a byte
 pub record Cells (window : List ℕ) : Type 0 where
-  pub low : (i : ℕ) → i < tileCells → shown window i < 256
+  pub low : (i : ℕ) → i < tileCells → shownBy window i < 256
 
 -- a window's colours with their masks
 pub record Masked (window mask : List ℕ) : Type 0 where
   pub cells : Cells window
-  pub masks : (i : ℕ) → i < tileCells → shown mask i ≡ maskOf (shown window i)
+  pub masks : (i : ℕ) → i < tileCells → shownBy mask i ≡ maskOf (shownBy window i)

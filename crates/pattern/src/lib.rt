@@ -10,7 +10,7 @@ ghost use Rattle.rules.specs.Grid.{flat, cellAt, numberOf, numberOrPast, colour
 ghost use Rattle.rules.specs.Fit.{pattern, fitsTile};
 ghost use Rattle.rules.specs.Promises.{before};
 ghost use Rattle.pattern.specs.Ready.{Readable, OnGrid};
-ghost use Rattle.pattern.specs.Words.{shown, cellsFrom, word, maskOf, Cells, Masked};
+ghost use Rattle.pattern.specs.Words.{shownBy, cellsFrom, word, maskOf, Cells, Masked};
 
 // The colour on the cell (r, c); 0 where it is bare or past the edge.
 fn colour_at(pieces: &[u32], rows: usize, cols: usize, r: usize, c: usize) -> u8
@@ -83,7 +83,7 @@ fn mask_for(colour: u8) -> u8
 }
 
 pub fn masks_for(window: &[u8; rules::TILE_CELLS]) -> [u8; rules::TILE_CELLS]
-    ensures { λ r. ⌜ r ≡ tab 9 (λ i. maskOf (shown (before window) i)) ⌝ }
+    ensures { λ r. ⌜ r ≡ tab 9 (λ i. maskOf (shownBy (before window) i)) ⌝ }
 {
     let mut masks = [0u8; rules::TILE_CELLS];
     let mut k = 0;
@@ -103,7 +103,7 @@ pub fn tile_fits(
 ) -> bool
     requires { ⌜ n * 9 + 9 ≤ length (now tiles) ⌝ }
     requires { ⌜ Masked (now window) (now mask) ⌝ }
-    ensures { λ r. ⌜ r ≡ fitsTile (before tiles) (shown (before window)) n ⌝ }
+    ensures { λ r. ⌜ r ≡ fitsTile (before tiles) (shownBy (before window)) n ⌝ }
 {
     let at = n * rules::TILE_CELLS;
     if (eight(tiles, at) & eight(mask, 0)) != eight(window, 0) {
@@ -115,7 +115,7 @@ pub fn tile_fits(
 // No piece lies in the window.
 pub fn is_bare(window: &[u8; rules::TILE_CELLS]) -> bool
     requires { ⌜ Cells (now window) ⌝ }
-    ensures { λ r. ⌜ r ≡ every 9 (λ i. eqb (shown (before window) i) 0) ⌝ }
+    ensures { λ r. ⌜ r ≡ every 9 (λ i. eqb (shownBy (before window) i) 0) ⌝ }
 {
     let first = eight(window, 0) == 0;
     let last = window[8] == 0;

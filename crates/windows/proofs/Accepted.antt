@@ -53,7 +53,8 @@ module _ (pieces : List ℕ) (rows cols : ℕ) (tiles : List ℕ) (count : ℕ) 
   ready-coloured r = record { whole = r .tried .whole; known = λ i h. omega (arith, r .known i h, r .colours) }
 
 -- what holds of every entry and of the value stored holds of every entry then
-set-keeps : (P : ℕ → Type 0) (l : List ℕ) (k v : ℕ) → P v → ((i : ℕ) → i < length l → P (getD l i 0)) → (i : ℕ) → i < length (set l k v) → P (getD (set l k v) i 0)
+set-keeps : (P : ℕ → Type 0) (l : List ℕ) (k v : ℕ) → P v → ((i : ℕ) → i < length l → P (getD l i 0))
+    → (i : ℕ) → i < length (set l k v) → P (getD (set l k v) i 0)
 set-keeps P l k v p h i b =
     let i< : i < length l = omega (arith, length-set l k v) in
     by-test (eqb i k)

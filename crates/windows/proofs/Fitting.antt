@@ -41,4 +41,6 @@ tally-done {n} {i} f a b h = let e : i ≡ n = omega arith in h ∙ ap (λ (m : 
 pub bare-fits : (tiles : List ℕ) (shown : ℕ → ℕ) → every 9 (λ i. eqb (shown i) 0) ≡ true → tilesIn tiles ≡ fitCount tiles shown
 unfolding fitCount fitsTile agrees
 bare-fits tiles shown e =
-    sym (tally-all (fitsTile tiles shown) (tilesIn tiles) (λ n l. every-is (agreesAt tiles shown n) 9 (λ i m. or-left (eqb (shown i) 0) _ (every-at (λ i. eqb (shown i) 0) 9 e i m))))
+    sym
+    (tally-all (fitsTile tiles shown) (tilesIn tiles)
+    (λ n l. every-is (agreesAt tiles shown n) 9 (λ i m. or-left (eqb (shown i) 0) _ (every-at (λ i. eqb (shown i) 0) 9 e i m))))

@@ -25,7 +25,7 @@ use Rattle.rules.specs.Sets.{has, bitsOf}
 use Rattle.rules.specs.Grid.{Shape}
 use Rattle.rules.specs.Fit.{pattern, fitsTile, serves, hasFitting, allows, windowOrder, leftAfter, lists}
 use Rattle.sets.proofs.Digits.{bits-lt, bits-ext, bits-has, none-is}
-use Rattle.pattern.specs.Words.{shown}
+use Rattle.pattern.specs.Words.{shownBy}
 use Rattle.pattern.proofs.Windows.{read-is}
 use Rattle.windows.specs.Kept.{Keeps}
 use Rattle.windows.proofs.Kept.{none-has, keeps-all, keeps-ext, keeps-both, keeps-rest, keeps-none}
@@ -108,10 +108,10 @@ module _ (g : Shape) (tiles pieces : List ℕ) (k : ℕ) where
 
   -- one that is kept, starts at s and was read allows what it has a fitting tile for
   pub kept-left : {left x s : ℕ} (q : ℕ) (w : List ℕ) → g .kept k q ≡ true → g .start k q ≡ s → w ≡ tab 9 (pattern g pieces s)
-      → Keeps left (hasFitting tiles (shown w) q) x → Keeps left (λ t. allows g tiles pieces k t q) x
+      → Keeps left (hasFitting tiles (shownBy w) q) x → Keeps left (λ t. allows g tiles pieces k t q) x
   unfolding allows
   kept-left {s = s} q w e p r h =
-      keeps-ext h (λ t a b. has-ext tiles (shown w) (pattern g pieces s) (read-is w _ r) q t ∙ sym (rw (e, p)))
+      keeps-ext h (λ t a b. has-ext tiles (shownBy w) (pattern g pieces s) (read-is w _ r) q t ∙ sym (rw (e, p)))
 
 -- the nine windows
 order-test : every 9 (λ i. ltb (getD windowOrder i 0) 9) ≡ true

@@ -37,7 +37,9 @@ placed-test = refl
 pub in-order : (f : ℕ → Bool) → every 9 (λ i. f (getD windowOrder i 0)) ≡ every 9 f
 in-order f =
     same-test _ _
-    (λ e. every-is f 9 (λ q l. let w = found q l in subst (λ (x : ℕ). f x ≡ true) (w .1) (every-at (λ i. f (getD windowOrder i 0)) 9 e (getD placed q 0) (w .0))))
+    (λ e.
+    every-is f 9 (λ q l.
+    let w = found q l in subst (λ (x : ℕ). f x ≡ true) (w .1) (every-at (λ i. f (getD windowOrder i 0)) 9 e (getD placed q 0) (w .0))))
     (λ e. every-is (λ i. f (getD windowOrder i 0)) 9 (λ i l. every-at f 9 e (getD windowOrder i 0) (order-lt i l)))
   where
     found : (q : ℕ) → q < 9 → (getD placed q 0 < 9) × (getD windowOrder (getD placed q 0) 0 ≡ q)
@@ -65,20 +67,24 @@ unfolding agrees
 agree-to a b h = by-test (eqb a 0) (λ z. or-left (eqb a 0) (eqb a b) z) (λ z. or-right (eqb a 0) (eqb a b) (eq-eqb a b (sym (h (eqb-false a 0 z)))))
 
 module _ (g : Shape) (tiles pieces : List ℕ) (k t : ℕ) where
-  shown : ℕ → ℕ → ℕ
+  abbrev shown : ℕ → ℕ → ℕ
   shown q = pattern g pieces (g .start k q)
 
   pub lists-from : lists g tiles pieces k t ≡ true → Listed g tiles pieces k t
-  unfolding Listed Agrees leftAfter allows hasFitting fitsTile shown
+  unfolding Listed Agrees leftAfter allows hasFitting fitsTile
   lists-from e q l kept =
       let h = every-at (allows g tiles pieces k t) 9 (sym (in-order (allows g tiles pieces k t)) ∙ e) q l in
       let s : hasFitting tiles (shown q) q t ≡ true = sym (ap (λ (b : Bool). not b || hasFitting tiles (shown q) q t) kept) ∙ h in
       let w = some-at (serves tiles (shown q) q t) (tilesIn tiles) s in
-      let f = and-left (fitsTile tiles (shown q) (w .0)) (eqb t (getD tiles (w .0 * 9 + q) 0)) (w .2) in
-      (w .0, w .1, (λ i m. agree-from _ _ (every-at (agreesAt tiles (shown q) (w .0)) 9 f i m)), sym (eqb-true t _ (and-right (fitsTile tiles (shown q) (w .0)) (eqb t (getD tiles (w .0 * 9 + q) 0)) (w .2))))
+      let f = and-left (fitsTile tiles (shown q) (w .0)) (eqb t (getD tiles (w .0 * 9 + q) 0)) (w .2) in (
+        w .0,
+        w .1,
+        (λ i m. agree-from _ _ (every-at (agreesAt tiles (shown q) (w .0)) 9 f i m)),
+        sym (eqb-true t _ (and-right (fitsTile tiles (shown q) (w .0)) (eqb t (getD tiles (w .0 * 9 + q) 0)) (w .2))),
+      )
 
   pub lists-to : Listed g tiles pieces k t → lists g tiles pieces k t ≡ true
-  unfolding Listed Agrees leftAfter allows hasFitting fitsTile shown
+  unfolding Listed Agrees leftAfter allows hasFitting fitsTile
   lists-to h = in-order (allows g tiles pieces k t) ∙ every-is (allows g tiles pieces k t) 9 (λ q l. by-test (g .kept k q) (λ e. at q l e) (λ e. rw e))
     where
       at : (q : ℕ) → q < 9 → g .kept k q ≡ true → allows g tiles pieces k t q ≡ true

@@ -12,7 +12,7 @@ ghost use Rattle.rules.specs.Sets.{bitsOf};
 ghost use Rattle.rules.specs.Fit.{pattern, fitCount, serves, hasFitting, allows, windowOrder, lists, foundAt};
 ghost use Rattle.rules.specs.Promises.{before};
 ghost use Rattle.rules.specs.declared.Listing.the-variants.{Colours};
-ghost use Rattle.pattern.specs.Words.{shown, Masked};
+ghost use Rattle.pattern.specs.Words.{shownBy, Masked};
 ghost use Rattle.pattern.specs.Ready.{Readable, OnGrid};
 ghost use Rattle.windows.specs.Ready.{Countable, Ready, Coloured};
 ghost use Rattle.windows.specs.Kept.{Keeps};
@@ -34,7 +34,7 @@ fn one_if(test: bool) -> u32
 fn fit_count(tiles: &[u8], window: &[u8; rules::TILE_CELLS], mask: &[u8; rules::TILE_CELLS]) -> u32
     requires { ⌜ tilesIn (now tiles) ≤ maxTiles ⌝ }
     requires { ⌜ Masked (now window) (now mask) ⌝ }
-    ensures { λ r. ⌜ r ≡ fitCount (before tiles) (shown (before window)) ⌝ }
+    ensures { λ r. ⌜ r ≡ fitCount (before tiles) (shownBy (before window)) ⌝ }
 {
     let last = tiles.len() / rules::TILE_CELLS;
     if pattern::is_bare(window) {
@@ -89,7 +89,7 @@ fn missing_past(
     requires { ⌜ Coloured (now tiles) ⌝ }
     requires { ⌜ Masked (now window) (now mask) ⌝ }
     requires { ⌜ q < 9 ⌝ }
-    ensures { λ r. ⌜ Keeps missing (λ t. not (serves (before tiles) (shown (before window)) q t n)) r ⌝ }
+    ensures { λ r. ⌜ Keeps missing (λ t. not (serves (before tiles) (shownBy (before window)) q t n)) r ⌝ }
 {
     if !pattern::tile_fits(tiles, n, window, mask) {
         return missing;
@@ -109,7 +109,7 @@ fn window_colours(
     requires { ⌜ Coloured (now tiles) ⌝ }
     requires { ⌜ Masked (now window) (now mask) ⌝ }
     requires { ⌜ q < 9 ⌝ }
-    ensures { λ r. ⌜ Keeps left (hasFitting (before tiles) (shown (before window)) q) r ⌝ }
+    ensures { λ r. ⌜ Keeps left (hasFitting (before tiles) (shownBy (before window)) q) r ⌝ }
 {
     let end = tiles.len() / rules::TILE_CELLS;
     let mut missing = left;

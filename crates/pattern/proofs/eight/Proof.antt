@@ -16,19 +16,18 @@ add-four c = search needs
 four-requires-2 : tie.Need-four-requires-2
 four-requires-2 c κs = search needs
 
-mul-result : tie.Need-mul-result
-mul-result c = let a = c .before .before .before .args in
+-- both halves are small
+halves : (c : tie.After-four2) → (c .four2 .result < 2 ^ 32) × (c .before .four .result < 2 ^ 32)
+halves c =
+    let a = c .before .before .before .args in
     let byte : (i : ℕ) → getD (a .cells .now) i 0 < 256 = λ i. omega (arith, c .before .before .shared-slice-known .given i) in
-    let high : c .four2 .result < 2 ^ 32 = rw (c .four2 .ensures) (word-lt 4 _ (λ i l. byte (a .at + 4 + i))) in
-    let low : c .before .four .result < 2 ^ 32 = rw (c .before .four .ensures) (word-lt 4 _ (λ i l. byte (a .at + i))) in
-    record { fits = omega arith }
+    (rw (c .four2 .ensures) (word-lt 4 _ (λ i l. byte (a .at + 4 + i))), rw (c .before .four .ensures) (word-lt 4 _ (λ i l. byte (a .at + i))))
+
+mul-result : tie.Need-mul-result
+mul-result c = let h = halves c in record { fits = omega arith }
 
 add-result : tie.Need-add-result
-add-result c = let a = c .before .before .before .args in
-    let byte : (i : ℕ) → getD (a .cells .now) i 0 < 256 = λ i. omega (arith, c .before .before .shared-slice-known .given i) in
-    let high : c .four2 .result < 2 ^ 32 = rw (c .four2 .ensures) (word-lt 4 _ (λ i l. byte (a .at + 4 + i))) in
-    let low : c .before .four .result < 2 ^ 32 = rw (c .before .four .ensures) (word-lt 4 _ (λ i l. byte (a .at + i))) in
-    record { fits = omega arith }
+add-result c = let h = halves c in record { fits = omega arith }
 
 returns : tie.Need-returns
 returns c = joined 4 4 (c .before .before .before .args .cells .now) (c .before .before .before .args .at) (c .four2 .ensures) (c .before .four .ensures)

@@ -16,19 +16,18 @@ add-pair c = search needs
 pair-requires-2 : tie.Need-pair-requires-2
 pair-requires-2 c κs = search needs
 
-mul-result : tie.Need-mul-result
-mul-result c = let a = c .before .before .before .args in
+-- both halves are small
+halves : (c : tie.After-pair2) → (c .pair2 .result < 2 ^ 16) × (c .before .pair .result < 2 ^ 16)
+halves c =
+    let a = c .before .before .before .args in
     let byte : (i : ℕ) → getD (a .cells .now) i 0 < 256 = λ i. omega (arith, c .before .before .shared-slice-known .given i) in
-    let high : c .pair2 .result < 2 ^ 16 = rw (c .pair2 .ensures) (word-lt 2 _ (λ i l. byte (a .at + 2 + i))) in
-    let low : c .before .pair .result < 2 ^ 16 = rw (c .before .pair .ensures) (word-lt 2 _ (λ i l. byte (a .at + i))) in
-    record { fits = omega arith }
+    (rw (c .pair2 .ensures) (word-lt 2 _ (λ i l. byte (a .at + 2 + i))), rw (c .before .pair .ensures) (word-lt 2 _ (λ i l. byte (a .at + i))))
+
+mul-result : tie.Need-mul-result
+mul-result c = let h = halves c in record { fits = omega arith }
 
 add-result : tie.Need-add-result
-add-result c = let a = c .before .before .before .args in
-    let byte : (i : ℕ) → getD (a .cells .now) i 0 < 256 = λ i. omega (arith, c .before .before .shared-slice-known .given i) in
-    let high : c .pair2 .result < 2 ^ 16 = rw (c .pair2 .ensures) (word-lt 2 _ (λ i l. byte (a .at + 2 + i))) in
-    let low : c .before .pair .result < 2 ^ 16 = rw (c .before .pair .ensures) (word-lt 2 _ (λ i l. byte (a .at + i))) in
-    record { fits = omega arith }
+add-result c = let h = halves c in record { fits = omega arith }
 
 returns : tie.Need-returns
 returns c = joined 2 2 (c .before .before .before .args .cells .now) (c .before .before .before .args .at) (c .pair2 .ensures) (c .before .pair .ensures)

@@ -1,6 +1,6 @@
 -- `pattern::is_bare` meets its contract: eight cells read as one number, and the ninth, are 0. Assumes nothing.
 use mathlib.Core.Path.{_≡_, _∙_}
-use Rattle.pattern.specs.Words.{shown, word}
+use Rattle.pattern.specs.Words.{shownBy, word}
 use Rattle.pattern.proofs.Words.{from-first, bare-cells}
 use borrow.Author.Needs.{needs}
 use Rattle.pattern.proofs.is_bare.Statement.{statement}
@@ -14,7 +14,7 @@ element-copy-out-last c = search needs
 
 returns : tie.Need-returns
 returns c = let a = c .before .before .before .args in
-    let p : c .before .eight .result ≡ word 8 (shown (a .window .now)) = c .before .eight .ensures ∙ from-first 8 (a .window .now) in
+    let p : c .before .eight .result ≡ word 8 (shownBy (a .window .now)) = c .before .eight .ensures ∙ from-first 8 (a .window .now) in
     rw p (bare-cells (a .window .now) (c .before .before .before .pre))
 
 pub is-bare-spec : {M : Type 1} → statement M

@@ -2,13 +2,13 @@
 use Prim.Native.Nat.{_-_, _≤_}
 use mathlib.Core.Path.{_≡_, _∙_}
 use Rattle.base.proofs.Swept.{swept, swept-none, swept-turn, swept-all}
-use Rattle.pattern.specs.Words.{shown, maskOf}
+use Rattle.pattern.specs.Words.{shownBy, maskOf}
 use borrow.Author.Needs.{needs}
 use Rattle.pattern.proofs.masks_for.Statement.{statement}
 use Rattle.pattern.proofs.masks_for.Tie as tie
 
 abbrev Inv-loop : tie.InvT-loop
-Inv-loop window masks₀ k₀ masks k = (k ≤ 9) × (masks ≡ swept 0 k (λ i. maskOf (shown window i)) masks₀)
+Inv-loop window masks₀ k₀ masks k = (k ≤ 9) × (masks ≡ swept 0 k (λ i. maskOf (shownBy window i)) masks₀)
 
 abbrev μ-loop : tie.MeasureT-loop
 μ-loop window masks₀ k₀ masks k = 9 - k
@@ -36,7 +36,7 @@ loop-again c =
     let a = c .before .before .before .before .args in
     let l = c .before .before .before .loop in (
       search needs,
-      swept-turn 0 (l .masks) _ (l .k) (λ i. maskOf (shown (a .window .now) i)) (c .mask-for .result) (search needs) (l .inv .1) (c .mask-for .ensures),
+      swept-turn 0 (l .masks) _ (l .k) (λ i. maskOf (shownBy (a .window .now) i)) (c .mask-for .result) (search needs) (l .inv .1) (c .mask-for .ensures),
     )
 
 returns : tie.Need-returns Inv-loop μ-loop

@@ -25,7 +25,9 @@ mul-result : tie.Need-mul-result
 mul-result c = record { fits = omega (arith, c .shared-slice-known2 .given (c .before .before .args .at + 1)) }
 
 add-result : tie.Need-add-result
-add-result c = record { fits = omega (arith, c .shared-slice-known2 .given (c .before .before .args .at + 1), c .before .shared-slice-known .given (c .before .before .args .at)) }
+add-result c =
+    let at = c .before .before .args .at in
+    record { fits = omega (arith, c .shared-slice-known2 .given (at + 1), c .before .shared-slice-known .given at) }
 
 returns : tie.Need-returns
 returns c = pair-is (c .before .before .args .cells .now) (c .before .before .args .at)

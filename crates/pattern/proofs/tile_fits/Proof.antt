@@ -1,8 +1,9 @@
 -- `pattern::tile_fits` meets its contract: eight cells read as one number, and the ninth, compare as the fit test does. Assumes nothing.
-use Prim.Native.Nat.{_*_}
+use Prim.Native.Nat.{ℕ, _*_, _<_}
 use mathlib.Core.Path.{_≡_, sym, _∙_}
 use native.Mathlib.Omega.{arith}
-use Rattle.pattern.specs.Words.{shown, cellsFrom, word}
+use lib.ListN.{getD}
+use Rattle.pattern.specs.Words.{shownBy, cellsFrom, word}
 use Rattle.pattern.proofs.Words.{from-first, left-there, ninth-decides}
 use borrow.Author.Needs.{needs}
 use Rattle.pattern.proofs.tile_fits.Statement.{statement}
@@ -22,13 +23,14 @@ eight-requires-3 c κs = search needs
 
 returns : tie.Need-returns
 returns c =
-    let d = c .before .before .before .before .before in
+    let f = c .before .before .before in
+    let d = f .before .before in
     let a = d .before .before .args in
     let p : d .eight .result ≡ word 8 (cellsFrom (a .tiles .now) (a .n * 9)) = d .eight .ensures in
-    let q : c .before .before .before .eight2 .result ≡ word 8 (shown (a .mask .now)) = c .before .before .before .eight2 .ensures ∙ from-first 8 (a .mask .now) in
-    let r : c .before .eight3 .result ≡ word 8 (shown (a .window .now)) = c .before .eight3 .ensures ∙ from-first 8 (a .window .now) in
-    left-there (a .tiles .now) (a .window .now) (a .mask .now) (a .n) (d .before .before .pre .1) (λ i. omega (arith, d .before .shared-slice-known .given i))
-    (rw (sym p, sym q, sym r) (c .if1 .taken))
+    let q : f .eight2 .result ≡ word 8 (shownBy (a .mask .now)) = f .eight2 .ensures ∙ from-first 8 (a .mask .now) in
+    let r : c .before .eight3 .result ≡ word 8 (shownBy (a .window .now)) = c .before .eight3 .ensures ∙ from-first 8 (a .window .now) in
+    let byte : (i : ℕ) → getD (a .tiles .now) i 0 < 256 = λ i. omega (arith, d .before .shared-slice-known .given i) in
+    left-there (a .tiles .now) (a .window .now) (a .mask .now) (a .n) (d .before .before .pre .1) byte (rw (sym p, sym q, sym r) (c .if1 .taken))
 
 add-result : tie.Need-add-result
 add-result c = search needs
@@ -44,14 +46,15 @@ element-copy-out-result-2 c = search needs
 
 returns-2 : tie.Need-returns-2
 returns-2 c =
-    let f = c .before .before .before in
-    let d = f .before .before .before .before .before in
+    let e = c .before .before .before in
+    let f = e .before .before .before in
+    let d = f .before .before in
     let a = d .before .before .args in
     let p : d .eight .result ≡ word 8 (cellsFrom (a .tiles .now) (a .n * 9)) = d .eight .ensures in
-    let q : f .before .before .before .eight2 .result ≡ word 8 (shown (a .mask .now)) = f .before .before .before .eight2 .ensures ∙ from-first 8 (a .mask .now) in
-    let r : f .before .eight3 .result ≡ word 8 (shown (a .window .now)) = f .before .eight3 .ensures ∙ from-first 8 (a .window .now) in
-    ninth-decides (a .tiles .now) (a .window .now) (a .mask .now) (a .n) (d .before .before .pre .1) (λ i. omega (arith, d .before .shared-slice-known .given i))
-    (rw (sym p, sym q, sym r) (f .if1 .left))
+    let q : f .eight2 .result ≡ word 8 (shownBy (a .mask .now)) = f .eight2 .ensures ∙ from-first 8 (a .mask .now) in
+    let r : e .before .eight3 .result ≡ word 8 (shownBy (a .window .now)) = e .before .eight3 .ensures ∙ from-first 8 (a .window .now) in
+    let byte : (i : ℕ) → getD (a .tiles .now) i 0 < 256 = λ i. omega (arith, d .before .shared-slice-known .given i) in
+    ninth-decides (a .tiles .now) (a .window .now) (a .mask .now) (a .n) (d .before .before .pre .1) byte (rw (sym p, sym q, sym r) (e .if1 .left))
 
 pub tile-fits-spec : {M : Type 1} → statement M
 tile-fits-spec =

@@ -44,8 +44,8 @@ loop-again c =
     let l = c .before .before .loop in
     let cell : Cell = cellAt (a .row) (a .col) in (
       search needs,
-      swept-turn 0 (l .window) _ (l .i) (pattern (flat (a .rows) (a .cols)) (a .pieces .now) (numberOf (a .cols) cell)) (c .colour-at .result) (search needs) (l .inv .1)
-          (c .colour-at .ensures ∙ pattern-is (a .rows) (a .cols) cell (l .i) (search needs) (a .pieces .now)),
+      swept-turn 0 (l .window) _ (l .i) (pattern (flat (a .rows) (a .cols)) (a .pieces .now) (numberOf (a .cols) cell)) (c .colour-at .result)
+          (search needs) (l .inv .1) (c .colour-at .ensures ∙ pattern-is (a .rows) (a .cols) cell (l .i) (search needs) (a .pieces .now)),
     )
 
 returns : tie.Need-returns Inv-loop μ-loop

@@ -7,14 +7,14 @@ use Rattle.base.specs.Counting.{tally}
 use Rattle.base.proofs.Counted.{tally-le}
 use Rattle.rules.specs.Tests.{tilesIn}
 use Rattle.rules.specs.Fit.{fitsTile, fitCount}
-use Rattle.pattern.specs.Words.{shown}
+use Rattle.pattern.specs.Words.{shownBy}
 use Rattle.windows.proofs.Fitting.{bare-fits, tally-turn, tally-done}
 use borrow.Author.Needs.{needs}
 use Rattle.windows.proofs.fit_count.Statement.{statement}
 use Rattle.windows.proofs.fit_count.Tie as tie
 
 abbrev Inv-loop : tie.InvT-loop
-Inv-loop tiles window mask last count₀ n₀ count n = (n ≤ tilesIn tiles) × (count ≡ tally n (fitsTile tiles (shown window)))
+Inv-loop tiles window mask last count₀ n₀ count n = (n ≤ tilesIn tiles) × (count ≡ tally n (fitsTile tiles (shownBy window)))
 
 abbrev μ-loop : tie.MeasureT-loop
 μ-loop tiles window mask last count₀ n₀ count n = tilesIn tiles - n
@@ -41,7 +41,7 @@ one-if-requires c κs = search needs
 add-count : tie.Need-add-count Inv-loop μ-loop
 add-count c = let a = c .before .before .before .before .before .before .before .args in
     let l = c .before .before .before .loop in
-    let f : ℕ → Bool = fitsTile (a .tiles .now) (shown (a .window .now)) in
+    let f : ℕ → Bool = fitsTile (a .tiles .now) (shownBy (a .window .now)) in
     let t : l .count + c .one-if .result ≡ tally (l .n + 1) f = tally-turn f (l .inv .1) (c .before .tile-fits .ensures) (c .one-if .ensures) in
     record { fits = omega (arith, tally-le f (l .n + 1)) }
 
@@ -54,7 +54,7 @@ loop-less c = search needs
 loop-again : tie.Need-loop-again Inv-loop μ-loop
 loop-again c = let a = c .before .before .before .before .before .before .before .args in
     let l = c .before .before .before .loop in
-    (search needs, tally-turn (fitsTile (a .tiles .now) (shown (a .window .now))) (l .inv .1) (c .before .tile-fits .ensures) (c .one-if .ensures))
+    (search needs, tally-turn (fitsTile (a .tiles .now) (shownBy (a .window .now))) (l .inv .1) (c .before .tile-fits .ensures) (c .one-if .ensures))
 
 returns-2 : tie.Need-returns-2 Inv-loop μ-loop
 unfolding fitCount

@@ -9,10 +9,14 @@ use Rattle.windows.proofs.narrowed.Statement.{statement}
 use Rattle.windows.proofs.narrowed.Tie as tie
 
 returns : tie.Need-returns
-returns c = let d = c .before .before .before in skip-left _ _ _ _ (skipped-above _ _ (cellAt (d .args .row) (d .args .col)) _ (d .pre .1 .1 .0 .across) (c .if1 .taken))
+returns c =
+    let d = c .before .before .before in
+    skip-left _ _ _ _ (skipped-above _ _ (cellAt (d .args .row) (d .args .col)) _ (d .pre .1 .1 .0 .across) (c .if1 .taken))
 
 returns-2 : tie.Need-returns-2
-returns-2 c = let d = c .before .before .before .before in skip-left _ _ _ _ (skipped-left _ _ (cellAt (d .args .row) (d .args .col)) _ (d .pre .1 .1 .0 .across) (c .if2 .taken))
+returns-2 c =
+    let d = c .before .before .before .before in
+    skip-left _ _ _ _ (skipped-left _ _ (cellAt (d .args .row) (d .args .col)) _ (d .pre .1 .1 .0 .across) (c .if2 .taken))
 
 sub-window-at : tie.Need-sub-window-at
 sub-window-at c = search needs
@@ -29,7 +33,8 @@ masks-for-requires c κs = search needs
 window-colours-requires : tie.Need-window-colours-requires
 window-colours-requires c κs =
     let p = c .before .before .before .before .before .before .before .before .before .pre in
-    (p .0, (p .1 .1 .1 .0, (read-masked _ (p .1 .0) (c .before .before .before .before .window-at .ensures) (c .before .before .masks-for .ensures), p .1 .1 .1 .1)))
+    let m = read-masked _ (p .1 .0) (c .before .before .before .before .window-at .ensures) (c .before .before .masks-for .ensures) in
+    (p .0, (p .1 .1 .1 .0, (m, p .1 .1 .1 .1)))
 
 returns-3 : tie.Need-returns-3
 returns-3 c =
@@ -37,8 +42,8 @@ returns-3 c =
     let d = e .before .before .before .before in
     let cell = cellAt (d .args .row) (d .args .col) in
     let on = d .pre .1 .1 .0 .across in
-    kept-left _ _ _ _ _ _ (is-kept _ _ cell _ on (e .before .if1 .left) (e .if2 .left)) (start-is _ _ cell _ on) (c .before .before .before .before .before .window-at .ensures)
-    (c .window-colours .ensures)
+    kept-left _ _ _ _ _ _ (is-kept _ _ cell _ on (e .before .if1 .left) (e .if2 .left)) (start-is _ _ cell _ on)
+    (c .before .before .before .before .before .window-at .ensures) (c .window-colours .ensures)
 
 pub narrowed-spec : {M : Type 1} → statement M
 narrowed-spec =

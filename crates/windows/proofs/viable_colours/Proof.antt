@@ -33,9 +33,10 @@ window-place-requires c κs = search needs
 narrowed-requires : tie.Need-narrowed-requires Inv-loop μ-loop
 narrowed-requires c κs =
     let p = c .before .before .before .before .before .before .before .pre in
-    let l = c .before .before .before .loop in
-    (few-lt _ _ _ (p .0 .colours) (l .inv .1),
-    (p .0 .tried .board, (p .1, (ready-coloured _ _ _ _ _ (p .0), rw (c .window-place .ensures) (order-lt (l .i) (search needs))))))
+    let l = c .before .before .before .loop in (
+      few-lt _ _ _ (p .0 .colours) (l .inv .1),
+      (p .0 .tried .board, (p .1, (ready-coloured _ _ _ _ _ (p .0), rw (c .window-place .ensures) (order-lt (l .i) (search needs))))),
+    )
 
 add-i : tie.Need-add-i Inv-loop μ-loop
 add-i c = search needs
@@ -45,8 +46,9 @@ loop-less c = search needs
 
 loop-again : tie.Need-loop-again Inv-loop μ-loop
 loop-again c =
-    let p = c .before .before .before .before .before .before .before .before .pre in
-    (search needs, left-turn _ _ _ _ _ _ (p .0 .colours) (c .before .before .before .before .loop .inv .1) (c .before .window-place .ensures) (c .narrowed .ensures))
+    let l = c .before .before .before .before in
+    let p = l .before .before .before .before .pre in
+    (search needs, left-turn _ _ _ _ _ _ (p .0 .colours) (l .loop .inv .1) (c .before .window-place .ensures) (c .narrowed .ensures))
 
 returns-2 : tie.Need-returns-2 Inv-loop μ-loop
 returns-2 c = let nine : c .before .loop .i ≡ 9 = omega arith in

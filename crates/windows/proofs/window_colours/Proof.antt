@@ -1,7 +1,7 @@
 -- `windows::window_colours` meets its contract. The loop's invariant: missing are the colours that no tile passed serves. Assumes nothing.
 use Prim.Native.Nat.{_-_, _≤_}
 use Rattle.rules.specs.Tests.{tilesIn}
-use Rattle.pattern.specs.Words.{shown}
+use Rattle.pattern.specs.Words.{shownBy}
 use Rattle.windows.specs.Kept.{Keeps}
 use Rattle.windows.proofs.Kept.{keeps-le}
 use Rattle.windows.proofs.Lists.{unserved, missing-first, missing-turn, missing-end, missing-none}
@@ -10,7 +10,7 @@ use Rattle.windows.proofs.window_colours.Statement.{statement}
 use Rattle.windows.proofs.window_colours.Tie as tie
 
 abbrev Inv-loop : tie.InvT-loop
-Inv-loop left tiles window mask q last missing₀ n₀ missing n = (n ≤ tilesIn tiles) × Keeps left (unserved tiles (shown window) q n) missing
+Inv-loop left tiles window mask q last missing₀ n₀ missing n = (n ≤ tilesIn tiles) × Keeps left (unserved tiles (shownBy window) q n) missing
 
 abbrev μ-loop : tie.MeasureT-loop
 μ-loop left tiles window mask q last missing₀ n₀ missing n = tilesIn tiles - n
