@@ -1,2 +1,3 @@
-pub mod Spanned
+pub mod Radius
 pub mod Coincide
+pub mod Spanned
