@@ -18,16 +18,11 @@ use Rattle.rules.specs.declared.Pads.{Pads}
 use Rattle.checks.proofs.Sides.{board-rows, board-cols}
 use Rattle.places.proofs.Wide.{wide, widened}
 use Rattle.places.proofs.Indices.{wall-low, offset-low}
+use Rattle.spans.proofs.Radius.{one-is}
 use Rattle.extension.specs.Given.{Reached, PadsIn, maxPad}
 
 pub zero-is : Reads w64 0 (pos 0) 1
 zero-is = counted w64 (omega arith) tt
-
-pub one-is : Reads w64 1 (pos 1) 2
-one-is = counted w64 (omega arith) tt
-
-pub reach-is : {k : ℕ} → k ≤ maxRadius → Reads w64 k (pos k) 64
-reach-is h = counted w64 (omega arith) tt
 
 pub side-is : {side : ℕ} → side ≤ maxBoardSide → Reads w64 side (pos side) 65
 side-is h = counted w64 (omega arith) tt

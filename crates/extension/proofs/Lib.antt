@@ -1,3 +1,3 @@
 pub mod Edges
-pub mod Answers
+pub mod Reach
 pub mod Coincide

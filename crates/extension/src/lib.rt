@@ -1,6 +1,6 @@
 // Document 01, "Places": the extension of a grid, without and with a box.
 ghost use mathlib.Core.Path.{_≡_};
-ghost use Rattle.base.specs.Refusal.{refusal, accepted};
+ghost use Rattle.base.specs.Refusal.{refusal};
 ghost use Rattle.rules.specs.Places.{extensionOf, boxedExtension, extensionChecks};
 use rules::BoundingBox;
 use rules::ExtensionAnswer;
@@ -17,7 +17,7 @@ fn extension_refused(
     coordinates: World,
     radius: usize,
 ) -> u8
-    ensures { λ r. ⌜ r ≡ refusal (extensionChecks rows cols offset coordinates radius accepted) ⌝ }
+    ensures { λ r. ⌜ r ≡ refusal (extensionChecks rows cols offset coordinates radius) ⌝ }
 {
     if !checks::board_sides(rows, cols) {
         return rules::SHAPE;

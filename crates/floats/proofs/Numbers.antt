@@ -6,7 +6,7 @@
 -- and what the checks of a call say of a float in these words.
 -- Assumes nothing.
 use Prim.Native.Nat.{ℕ, zero, suc, _+_, _-_, _*_, _/_, _^_, _<_, _≤_}
-use mathlib.Core.Path.{_≡_, refl, sym, subst}
+use mathlib.Core.Path.{_≡_, refl, sym, ap, subst}
 use mathlib.Core.Bool.{Bool, true, false, not, _||_, cond, Bool·beq}
 use mathlib.Core.List.{List}
 use native.Mathlib.Nat.{zero-mul}
@@ -112,6 +112,14 @@ square-upward (inf false) p = tt
 square-upward (fin true m e) p = absurd p
 square-upward (fin false m e) p = round-upward (m * up e * (m * up e)) (down e * down e)
 
+-- a quotient of finite floats whose divisor is not zero is rounded
+pub over-fin : (s : Bool) (m : ℕ) (e : ℤ) (t : Bool) (n : ℕ) (d : ℤ)
+    → over (fin s m e) (fin t (suc n) d) ≡ round binary64 (unlike s t) (m * up e * down d) (suc n * up d * down e)
+unfolding div
+over-fin s m e t n d =
+    ap (λ (b : Bool). cond b (cond (eqb m 0) nan (inf (unlike s t))) (round binary64 (unlike s t) (m * up e * down d) (suc n * up d * down e)))
+    (eqb·suc-zero n)
+
 pub over-upward : (x y : Float) → T (upward x) → T (positive y) → T (upward (over x y))
 unfolding div
 over-upward x nan p q = absurd q
@@ -123,8 +131,7 @@ over-upward (inf true) (fin false (suc n) d) p q = absurd p
 over-upward (inf false) (fin false (suc n) d) p q = tt
 over-upward (fin true m e) (fin false (suc n) d) p q = absurd p
 over-upward (fin false m e) (fin false (suc n) d) p q =
-    subst (λ (b : Bool). T (upward (cond b (cond (eqb m 0) nan (inf false)) (round binary64 false (m * up e * down d) (suc n * up d * down e)))))
-    (sym (eqb·suc-zero n)) (round-upward (m * up e * down d) (suc n * up d * down e))
+    subst (λ (x : Float). T (upward x)) (sym (over-fin false m e false n d)) (round-upward (m * up e * down d) (suc n * up d * down e))
 
 pub over-positive : (x y : Float) → noNan x ≡ true → T (positive y) → noNan (over x y) ≡ true
 unfolding div isNan
@@ -135,8 +142,7 @@ over-positive x (fin false zero d) p q = absurd q
 over-positive nan (fin false (suc n) d) p q = p
 over-positive (inf s) (fin false (suc n) d) p q = refl
 over-positive (fin s m e) (fin false (suc n) d) p q =
-    subst (λ (b : Bool). noNan (cond b (cond (eqb m 0) nan (inf (unlike s false))) (round binary64 (unlike s false) (m * up e * down d) (suc n * up d * down e))) ≡ true)
-    (sym (eqb·suc-zero n)) (round-number (unlike s false) (m * up e * down d) (suc n * up d * down e))
+    rw (over-fin s m e false n d) (round-number (unlike s false) (m * up e * down d) (suc n * up d * down e))
 
 -- a zero equals 0.0, whatever its sign
 either-true : (b : Bool) → (b || true) ≡ true
@@ -160,8 +166,7 @@ over-finite (fin s m e) nan p q h = absurd q
 over-finite (fin s m e) (inf t) p q h = absurd q
 over-finite (fin s m e) (fin t zero d) p q h = absurd (not-zero t d h)
 over-finite (fin s m e) (fin t (suc n) d) p q h =
-    subst (λ (b : Bool). noNan (cond b (cond (eqb m 0) nan (inf (unlike s t))) (round binary64 (unlike s t) (m * up e * down d) (suc n * up d * down e))) ≡ true)
-    (sym (eqb·suc-zero n)) (round-number (unlike s t) (m * up e * down d) (suc n * up d * down e))
+    rw (over-fin s m e t n d) (round-number (unlike s t) (m * up e * down d) (suc n * up d * down e))
 
 -- ---- counts
 

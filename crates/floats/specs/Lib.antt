@@ -1,3 +1,1 @@
-pub mod Spans
-pub mod Calls
 pub mod Numbers

@@ -1,8 +1,8 @@
--- One place beside another: which colour is forced there, as the tests find it.
+-- One place beside another, on any kind of grid: which colour is forced there, as the tests find it.
 --     not-admitted, off-board, on-board    what each test leaves of `forcedColour`
 --     beside    the position with that colour, none where it is 0, is the one that the definition finds
 -- Assumes nothing.
-use Prim.Native.Nat.{ℕ, _+_, _*_}
+use Prim.Native.Nat.{ℕ}
 use mathlib.Core.Path.{_≡_, refl, sym, _∙_}
 use mathlib.Core.Bool.{Bool, true, false, not, _&&_}
 use mathlib.Core.List.{List, [], _∷_}
@@ -13,41 +13,45 @@ use Rattle.base.specs.Counting.{pick}
 use Rattle.base.proofs.Bools.{by-test, and-right, and-no-left, and-no-right, pick-no}
 use Rattle.rules.specs.Tests.{onBoard}
 use Rattle.rules.specs.Places.{cellOf}
-use Rattle.rules.specs.Grid.{flat, numberOf, laidOn}
+use Rattle.rules.specs.Grid.{numberOf, Kind, laidOn}
 use Rattle.rules.specs.Fit.{lists}
 use Rattle.rules.specs.Forced.{admits, listedAt, only, forcesOne, isForced, forcedThere}
 use Rattle.rules.specs.declared.World.{World}
 use Rattle.rules.specs.declared.Offset.{Offset}
 use Rattle.rules.specs.declared.GenerationBounds.{GenerationBounds}
-use Rattle.rules.specs.declared.ForcedPosition.{ForcedPosition}
+use Rattle.rules.specs.declared.Cell.{Cell}
 use Rattle.sets.proofs.Colours.{one-only}
-use Rattle.forced.specs.Round.{forcedColour}
+use Rattle.forced.specs.Round.{onlyAt, forcedColour}
 
-module _ (pieces : List ℕ) (rows cols : ℕ) (tiles : List ℕ) (count : ℕ) (w : World) (o : Offset) (b : GenerationBounds) where
-  -- the colours listed at the cell of the place
+module _ (kind : Kind) (pieces : List ℕ) (rows cols : ℕ) (tiles : List ℕ) (count : ℕ) (w : World) (o : Offset) (b : GenerationBounds) where
+  abbrev forced : Bool
+  forced = isForced kind pieces rows cols tiles count w o b
+
+  abbrev colour : ℕ
+  colour = forcedColour kind pieces rows cols tiles count w o b
+
+  -- the cell of the place, and the colours listed there
+  abbrev at : ℕ
+  at = numberOf cols (cellOf w o)
+
   abbrev here : List ℕ
-  here = listedAt (flat rows cols) tiles pieces count (numberOf cols w o)
-
-  abbrev bare : Bool
-  bare = not (laidOn pieces (numberOf cols w o))
+  here = listedAt (kind rows cols) tiles pieces count at
 
   -- a test that fails
-  outside : isForced pieces rows cols tiles count w o b ≡ false → 0 ≡ forcedColour pieces rows cols tiles count w o b
+  outside : forced ≡ false → 0 ≡ colour
   unfolding forcedColour
-  outside e = sym (pick-no (isForced pieces rows cols tiles count w o b) _ 0 e)
+  outside e = sym (pick-no forced _ 0 e)
 
-  pub not-admitted : admits b w ≡ false → 0 ≡ forcedColour pieces rows cols tiles count w o b
+  pub not-admitted : admits b w ≡ false → 0 ≡ colour
   unfolding isForced
-  not-admitted e =
-      outside (and-no-left (admits b w && onBoard rows cols w o) _ (and-no-left (admits b w) _ e))
+  not-admitted e = outside (and-no-left (admits b w && onBoard rows cols w o) _ (and-no-left (admits b w) _ e))
 
-  pub off-board : onBoard rows cols w o ≡ false → 0 ≡ forcedColour pieces rows cols tiles count w o b
+  pub off-board : onBoard rows cols w o ≡ false → 0 ≡ colour
   unfolding isForced
-  off-board e =
-      outside (and-no-left (admits b w && onBoard rows cols w o) _ (and-no-right (admits b w) _ e))
+  off-board e = outside (and-no-left (admits b w && onBoard rows cols w o) _ (and-no-right (admits b w) _ e))
 
   -- where those hold, the rest is asked of the cell
-  is-one : admits b w ≡ true → onBoard rows cols w o ≡ true → isForced pieces rows cols tiles count w o b ≡ (bare && eqb (length here) 1)
+  is-one : admits b w ≡ true → onBoard rows cols w o ≡ true → forced ≡ (not (laidOn pieces at) && eqb (length here) 1)
   unfolding isForced forcesOne
   is-one p q = rw (p, q)
 
@@ -56,25 +60,21 @@ module _ (pieces : List ℕ) (rows cols : ℕ) (tiles : List ℕ) (count : ℕ) 
   lone false true t e = refl
   lone false false t e = eqb-true t 0 (not-false (eqb t 0) (sym e))
 
-  pub on-board : (r c : ℕ) → admits b w ≡ true → onBoard rows cols w o ≡ true → r ≡ cellOf w o .0 → c ≡ cellOf w o .1
-      → pick (laidOn pieces (r * cols + c)) 0 (only (listedAt (flat rows cols) tiles pieces count (r * cols + c))) ≡ forcedColour pieces rows cols tiles count w o b
-  unfolding forcedColour numberOf
-  on-board r c p q e f =
-      rw (e, f, is-one p q)
-      (lone (laidOn pieces (cellOf w o .0 * cols + cellOf w o .1)) _ _ (one-only count (lists (flat rows cols) tiles pieces (cellOf w o .0 * cols + cellOf w o .1))))
+  pub on-board : (cell : Cell) → admits b w ≡ true → onBoard rows cols w o ≡ true → cell ≡ cellOf w o
+      → onlyAt (kind rows cols) tiles pieces count (numberOf cols cell) ≡ colour
+  unfolding forcedColour
+  on-board cell p q e = rw (e, is-one p q) (lone (laidOn pieces at) _ _ (one-only count (lists (kind rows cols) tiles pieces at)))
 
   -- where a place is forced, there is a colour; where it is not, the colour is 0
-  one-colour : isForced pieces rows cols tiles count w o b ≡ true → eqb (only here) 0 ≡ false
+  one-colour : forced ≡ true → eqb (only here) 0 ≡ false
   unfolding isForced forcesOne
   one-colour e =
       not-true (eqb (only here) 0)
-      (sym (one-only count (lists (flat rows cols) tiles pieces (numberOf cols w o))) ∙ and-right bare _ (and-right (admits b w && onBoard rows cols w o) _ e))
+      (sym (one-only count (lists (kind rows cols) tiles pieces at))
+      ∙ and-right (not (laidOn pieces at)) _ (and-right (admits b w && onBoard rows cols w o) _ e))
 
   -- so the position that the colour gives is the definition's
-  abbrev position : ℕ → ForcedPosition
-  position colour = record { coordinates = w; colour = colour }
-
-  pub beside : pick (eqb (forcedColour pieces rows cols tiles count w o b) 0) [] (position (forcedColour pieces rows cols tiles count w o b) ∷ [])
-      ≡ pick (isForced pieces rows cols tiles count w o b) (forcedThere pieces rows cols tiles count w o ∷ []) []
+  pub beside : pick (eqb colour 0) [] (record { coordinates = w; colour = colour } ∷ [])
+      ≡ pick forced (forcedThere kind pieces rows cols tiles count w o ∷ []) []
   unfolding forcedColour forcedThere
-  beside = by-test (isForced pieces rows cols tiles count w o b) (λ e. rw (e, one-colour e)) (λ e. rw e)
+  beside = by-test forced (λ e. rw (e, one-colour e)) (λ e. rw e)

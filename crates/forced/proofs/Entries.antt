@@ -40,7 +40,7 @@ module _ (found : ForcedPositions) (l : List ForcedPosition) (w : World) (colour
   more l es n p q h = rw (p, q, fill addedRoom l new (rw q at h), length-append l (new ∷ []))
 
   pub one-more : found .len < addedRoom → (colour ≡ 0 → ⊥)
-      → _≡_ {A = ForcedPositions} (record { entries = set (found .entries) (found .len) (record { coordinates = w; colour = colour }); len = found .len + 1 }) (positionsOf (withForced l w colour))
+      → _≡_ {A = ForcedPositions} (record { entries = set (found .entries) (found .len) new; len = found .len + 1 }) (positionsOf (withForced l w colour))
   unfolding withForced positionsOf
   one-more h z =
       rw (ne-eqb colour 0 z)

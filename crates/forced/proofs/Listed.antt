@@ -1,14 +1,12 @@
--- What a call that has made the checks has of a cell and of its listing, for forced neighbours and the scan.
---     cell-inside      the cell's number is that of a cell, of which there are few
+-- What a call that has made the checks has of a cell's listing, for forced neighbours and the scan.
 --     never-refused    a listing that is a set is no refusal: the other way of a `let .. else` on it is never gone
 --     listing-says     what is said of the colours of the set, in any number of bits, is said of the colours listed
 -- Assumes nothing.
-use Prim.Native.Nat.{ℕ, _+_, _*_, _^_, _<_, _≤_}
+use Prim.Native.Nat.{ℕ, _^_, _<_}
 use mathlib.Core.Path.{_≡_, _∙_, ap}
 use mathlib.Core.Bool.{Bool}
 use mathlib.Core.List.{List}
 use native.Mathlib.Omega.{arith}
-use Rattle.base.proofs.Numbers.{cell-lt, mul-le}
 use Rattle.rules.specs.Sets.{has, setOf, coloursOf}
 use Rattle.rules.specs.declared.TileBitset.{TileBitset}
 use Rattle.rules.specs.declared.Listing.{Listing}
@@ -16,13 +14,6 @@ use Rattle.rules.specs.declared.Listing.the-variants.{Colours, Refused}
 use Rattle.sets.proofs.Digits.{bits-lt}
 use Rattle.sets.proofs.Colours.{colours-back}
 use Rattle.sets.proofs.Calls.{set-bits}
-use Rattle.pattern.specs.Ready.{OnGrid}
-use Rattle.windows.specs.Ready.{Ready}
-
-pub cell-inside : (pieces : List ℕ) (rows cols : ℕ) (tiles : List ℕ) (count r c : ℕ) → Ready pieces rows cols tiles count → OnGrid rows cols r c
-    → (r * cols + c < rows * cols) × (rows * cols ≤ 4096)
-cell-inside pieces rows cols tiles count r c ready on =
-    (cell-lt (on .down) (on .across), mul-le (ready .tried .board .tall) (ready .tried .board .wide))
 
 pub never-refused : {A : Type 0} (l : Listing) (s : TileBitset) (n : ℕ) → l ≡ Colours s → l ≡ Refused n → A
 never-refused l s n p q = absurd (let z : _≡_ {A = ℕ} 0 1 = cc in omega arith)

@@ -1,4 +1,4 @@
--- The eight neighbours in the loop's order: those found before a turn, at most one for each turn passed, and after it.
+-- The eight neighbours in the loop's order, on any kind of grid: those found before a turn, at most one for each turn passed, and after it.
 -- Assumes nothing.
 use Prim.Native.Nat.{ℕ, _+_, _<_, _≤_}
 use mathlib.Core.Path.{_≡_, refl, sym, _∙_, ap}
@@ -13,6 +13,7 @@ use Rattle.base.specs.Tables.{those}
 use Rattle.base.proofs.Counted.{every-at, tally-le}
 use Rattle.base.proofs.Tabled.{those-none, those-more, length-those}
 use Rattle.rules.specs.Bounds.{addedRoom}
+use Rattle.rules.specs.Grid.{Kind}
 use Rattle.rules.specs.Forced.{neighbour, isForced, forcedThere, forcedRound, positionsOf}
 use Rattle.rules.specs.declared.World.{World}
 use Rattle.rules.specs.declared.Offset.{Offset}
@@ -31,18 +32,19 @@ pub order-lt : (i : ℕ) → i < addedRoom → getD roundOrder i 0 < 9
 order-lt i l = ltb-true (getD roundOrder i 0) 9 (every-at (λ i. ltb (getD roundOrder i 0) 9) 8 order-test i l)
 
 -- those of the nine places without place 4 are those of the eight in this order
-skip-centre : {A : Type 0} (test : ℕ → Bool) (f : ℕ → A) → those 8 (λ i. test (getD roundOrder i 0)) (λ i. f (getD roundOrder i 0)) ≡ those 9 (λ d. not (eqb d 4) && test d) f
+skip-centre : {A : Type 0} (test : ℕ → Bool) (f : ℕ → A)
+    → those 8 (λ i. test (getD roundOrder i 0)) (λ i. f (getD roundOrder i 0)) ≡ those 9 (λ d. not (eqb d 4) && test d) f
 unfolding those
 skip-centre {A} test f =
-    let after : List A → List A = λ l. (((l ++ pick (test 5) (f 5 ∷ []) []) ++ pick (test 6) (f 6 ∷ []) []) ++ pick (test 7) (f 7 ∷ []) []) ++ pick (test 8) (f 8 ∷ []) [] in
-    ap after (sym (append-nil (those 4 test f)))
+    let at : ℕ → List A = λ d. pick (test d) (f d ∷ []) [] in
+    ap (λ (l : List A). (((l ++ at 5) ++ at 6) ++ at 7) ++ at 8) (sym (append-nil (those 4 test f)))
 
-module _ (pieces : List ℕ) (rows cols : ℕ) (tiles : List ℕ) (count : ℕ) (w : World) (o : Offset) (b : GenerationBounds) where
+module _ (kind : Kind) (pieces : List ℕ) (rows cols : ℕ) (tiles : List ℕ) (count : ℕ) (w : World) (o : Offset) (b : GenerationBounds) where
   abbrev pub testAt : ℕ → Bool
-  testAt i = isForced pieces rows cols tiles count (neighbour w (getD roundOrder i 0)) o b
+  testAt i = isForced kind pieces rows cols tiles count (neighbour w (getD roundOrder i 0)) o b
 
   abbrev pub foundAt : ℕ → ForcedPosition
-  foundAt i = forcedThere pieces rows cols tiles count (neighbour w (getD roundOrder i 0)) o
+  foundAt i = forcedThere kind pieces rows cols tiles count (neighbour w (getD roundOrder i 0)) o
 
   -- those found in the first i turns
   unfoldable pub foundBefore : ℕ → List ForcedPosition
@@ -56,17 +58,17 @@ module _ (pieces : List ℕ) (rows cols : ℕ) (tiles : List ℕ) (count : ℕ) 
   unfolding foundBefore
   before-few i found e = omega (arith, length-found found (those i testAt foundAt) e, length-those i testAt foundAt, tally-le testAt i)
 
-  pub before-more : (i d : ℕ) (there : World) (colour : ℕ) → d ≡ getD roundOrder i 0 → there ≡ neighbour w d → colour ≡ forcedColour pieces rows cols tiles count there o b
-      → withForced (foundBefore i) there colour ≡ foundBefore (i + 1)
+  pub before-more : (i d : ℕ) (there : World) (colour : ℕ) → d ≡ getD roundOrder i 0 → there ≡ neighbour w d
+      → colour ≡ forcedColour kind pieces rows cols tiles count there o b → withForced (foundBefore i) there colour ≡ foundBefore (i + 1)
   unfolding foundBefore withForced
   before-more i d there colour p q r =
       rw (r, q, p)
-      (ap (λ (l : List ForcedPosition). those i testAt foundAt ++ l) (beside pieces rows cols tiles count (neighbour w (getD roundOrder i 0)) o b)
+      (ap (λ (l : List ForcedPosition). those i testAt foundAt ++ l) (beside kind pieces rows cols tiles count (neighbour w (getD roundOrder i 0)) o b)
       ∙ sym (those-more i testAt foundAt))
 
-  pub before-all : (i : ℕ) → i ≤ addedRoom → addedRoom ≤ i → foundBefore i ≡ forcedRound pieces rows cols tiles count w o b
+  pub before-all : (i : ℕ) → i ≤ addedRoom → addedRoom ≤ i → foundBefore i ≡ forcedRound kind pieces rows cols tiles count w o b
   unfolding foundBefore forcedRound
   before-all i p q =
       let e : i ≡ 8 = omega arith in
       rw e
-      (skip-centre (λ d. isForced pieces rows cols tiles count (neighbour w d) o b) (λ d. forcedThere pieces rows cols tiles count (neighbour w d) o))
+      (skip-centre (λ d. isForced kind pieces rows cols tiles count (neighbour w d) o b) (λ d. forcedThere kind pieces rows cols tiles count (neighbour w d) o))

@@ -3,20 +3,20 @@
 ghost use mathlib.Core.Path.{_≡_};
 ghost use mathlib.Core.Bool.{true};
 ghost use mathlib.Core.List.{List, []};
-ghost use Prim.Native.Nat.{_+_, _*_, _<_};
+ghost use Prim.Native.Nat.{_<_};
 ghost use lib.IntN.{pos, _+ℤ_, _-ℤ_};
 ghost use lib.ListN.{getD};
-ghost use Rattle.base.specs.Counting.{pick};
 ghost use Rattle.base.specs.Whole.{withinZ};
 ghost use Rattle.base.specs.Refusal.{refusal};
 ghost use Rattle.rules.specs.Bounds.{addedRoom, minCoordinate, maxCoordinate};
 ghost use Rattle.rules.specs.Tests.{onWall};
-ghost use Rattle.rules.specs.Grid.{flat, laidOn};
-ghost use Rattle.rules.specs.Forced.{neighbour, admits, boundsFit, listedAt, only, forcedRound, positionsOf, forcedChecks, forcedNeighbours};
+ghost use Rattle.rules.specs.Grid.{numberOf, flat};
+ghost use Rattle.rules.specs.Forced.{neighbour, admits, boundsFit, forcedRound, positionsOf, forcedChecks, forcedNeighbours};
+ghost use Rattle.rules.specs.Promises.{before};
 ghost use Rattle.rules.specs.declared.ForcedPosition.{ForcedPosition};
 ghost use Rattle.pattern.specs.Ready.{OnGrid};
 ghost use Rattle.windows.specs.Ready.{Ready};
-ghost use Rattle.forced.specs.Round.{Roundable, roundOrder, forcedColour, withForced};
+ghost use Rattle.forced.specs.Round.{Roundable, roundOrder, onlyAt, forcedColour, withForced};
 use rules::Cell;
 use rules::ForcedAnswer;
 use rules::ForcedPosition;
@@ -86,7 +86,7 @@ fn only_colour_at(
 ) -> u32
     requires { ⌜ Ready (now pieces) rows cols (now tiles) count ⌝ }
     requires { ⌜ OnGrid rows cols (cell .0) (cell .1) ⌝ }
-    ensures { λ r. ⌜ r ≡ pick (laidOn (now (pieces .entry)) (cell .0 * cols + cell .1)) 0 (only (listedAt (flat rows cols) (now (tiles .entry)) (now (pieces .entry)) count (cell .0 * cols + cell .1))) ⌝ }
+    ensures { λ r. ⌜ r ≡ onlyAt (flat rows cols) (before tiles) (before pieces) count (numberOf cols cell) ⌝ }
 {
     let at = cell.0 * cols + cell.1;
     if pieces[at] > rules::BARE_PIECE {
@@ -111,7 +111,7 @@ fn forced_colour(
     bounds: GenerationBounds,
 ) -> u32
     requires { ⌜ Ready (now pieces) rows cols (now tiles) count ⌝ }
-    ensures { λ r. ⌜ r ≡ forcedColour (now (pieces .entry)) rows cols (now (tiles .entry)) count w offset bounds ⌝ }
+    ensures { λ r. ⌜ r ≡ forcedColour flat (before pieces) rows cols (before tiles) count w offset bounds ⌝ }
 {
     if !admitted(bounds, w) {
         return 0;
@@ -169,7 +169,7 @@ pub fn forced_round(
     bounds: GenerationBounds,
 ) -> ForcedPositions
     requires { ⌜ Roundable (now pieces) rows cols (now tiles) count position ⌝ }
-    ensures { λ r. ⌜ r ≡ positionsOf (forcedRound (now (pieces .entry)) rows cols (now (tiles .entry)) count position offset bounds) ⌝ }
+    ensures { λ r. ⌜ r ≡ positionsOf (forcedRound flat (before pieces) rows cols (before tiles) count position offset bounds) ⌝ }
 {
     let mut found = no_positions();
     let mut i = 0;
@@ -193,7 +193,7 @@ pub fn forced_refused(
     offset: Offset,
     bounds: GenerationBounds,
 ) -> u8
-    ensures { λ r. ⌜ r ≡ refusal (forcedChecks (now (pieces .entry)) rows cols (now (tiles .entry)) count position offset bounds) ⌝ }
+    ensures { λ r. ⌜ r ≡ refusal (forcedChecks (before pieces) rows cols (before tiles) count position offset bounds) ⌝ }
 {
     let refused = fit::pieces_refused(pieces, rows, cols, tiles, count);
     if refused != 0 {
@@ -220,7 +220,7 @@ pub fn detect_forced_positions(
     offset: Offset,
     bounds: GenerationBounds,
 ) -> ForcedAnswer
-    ensures { λ r. ⌜ r ≡ forcedNeighbours (now (pieces .entry)) rows cols (now (tiles .entry)) count position offset bounds ⌝ }
+    ensures { λ r. ⌜ r ≡ forcedNeighbours flat (before pieces) rows cols (before tiles) count position offset bounds ⌝ }
 {
     let refused = forced_refused(pieces, rows, cols, tiles, count, position, offset, bounds);
     if refused != 0 {

@@ -3,7 +3,7 @@
 -- Assumes nothing.
 use Prim.Native.Nat.{ℕ, zero, suc, _+_, _-_, _*_, _/_, _%_, _<_, _≤_}
 use mathlib.Core.Path.{_≡_, sym, _∙_, ap}
-use mathlib.Core.Bool.{Bool, true, false, _&&_}
+use mathlib.Core.Bool.{Bool, true, false}
 use mathlib.Core.List.{List}
 use native.Mathlib.Nat.{mod-lt, lt-of-lt-of-le}
 use native.Mathlib.Omega.{arith}
@@ -15,25 +15,28 @@ use Rattle.base.proofs.Bools.{and-both, and-no-left, and-no-right, pick-yes, pi
 use Rattle.base.proofs.Numbers.{mul-le}
 use Rattle.base.proofs.Tabled.{length-tab}
 use Rattle.rules.specs.Bounds.{maxTiles}
+use Rattle.rules.specs.Grid.{cellAt, numberOf, onGrid}
 use Rattle.rules.specs.Tiles.{sampleCell, startsAlong, windowTile, rotated, reflected, turned, turns, forms, form, variant, variants}
 
 -- a cell of the sample, or past its last row, or past its last column
 module _ (sample : List ℕ) (rows cols r c : ℕ) where
   abbrev inside : Bool
-  inside = ltb r rows && ltb c cols
+  inside = onGrid rows cols (cellAt r c)
+
+  abbrev held : ℕ
+  held = getD sample (numberOf cols (cellAt r c)) 0
 
   pub cell-below : rows ≤ r → 0 ≡ sampleCell sample rows cols r c
   unfolding sampleCell
-  cell-below h = sym (pick-no inside (getD sample (r * cols + c) 0) 0 (and-no-left (ltb r rows) (ltb c cols) (le-ltb r rows h)))
+  cell-below h = sym (pick-no inside held 0 (and-no-left (ltb r rows) (ltb c cols) (le-ltb r rows h)))
 
   pub cell-right : cols ≤ c → 0 ≡ sampleCell sample rows cols r c
   unfolding sampleCell
-  cell-right h = sym (pick-no inside (getD sample (r * cols + c) 0) 0 (and-no-right (ltb r rows) (ltb c cols) (le-ltb c cols h)))
+  cell-right h = sym (pick-no inside held 0 (and-no-right (ltb r rows) (ltb c cols) (le-ltb c cols h)))
 
-  pub cell-there : r < rows → c < cols → getD sample (r * cols + c) 0 ≡ sampleCell sample rows cols r c
+  pub cell-there : r < rows → c < cols → held ≡ sampleCell sample rows cols r c
   unfolding sampleCell
-  cell-there h k =
-      sym (pick-yes inside (getD sample (r * cols + c) 0) 0 (and-both (ltb r rows) (ltb c cols) (lt-ltb r rows h) (lt-ltb c cols k)))
+  cell-there h k = sym (pick-yes inside held 0 (and-both (ltb r rows) (ltb c cols) (lt-ltb r rows h) (lt-ltb c cols k)))
 
 -- ---- how many forms there are
 

@@ -3,6 +3,7 @@
 ghost use mathlib.Core.Path.{_≡_};
 ghost use Prim.Native.Nat.{_+_, _<_, _≤_};
 ghost use Rattle.rules.specs.Bounds.{maxSampleSide, maxTiles};
+ghost use Rattle.rules.specs.Promises.{before};
 ghost use Rattle.rules.specs.Tiles.{sampleCell, startsAlong, windowTile, rotated, reflected, turned, turns, forms, form, variant, variants};
 ghost use Rattle.forms.specs.Sample.{Sample};
 
@@ -11,7 +12,7 @@ const TILE_SIDE: usize = 3;
 // A cell of the sample, and 0 past it.
 fn sample_cell(sample: &[u8], rows: usize, cols: usize, r: usize, c: usize) -> u8
     requires { ⌜ Sample (now sample) rows cols ⌝ }
-    ensures { λ x. ⌜ x ≡ sampleCell (now (sample .entry)) rows cols r c ⌝ }
+    ensures { λ x. ⌜ x ≡ sampleCell (before sample) rows cols r c ⌝ }
 {
     if rows <= r {
         return 0;
@@ -41,7 +42,7 @@ fn window_tile(
     c: usize,
 ) -> [u8; rules::TILE_CELLS]
     requires { ⌜ Sample (now sample) rows cols × (r ≤ maxTiles) × (c ≤ maxTiles) ⌝ }
-    ensures { λ t. ⌜ t ≡ windowTile (now (sample .entry)) rows cols r c ⌝ }
+    ensures { λ t. ⌜ t ≡ windowTile (before sample) rows cols r c ⌝ }
 {
     let mut tile = [0u8; rules::TILE_CELLS];
     let mut k = 0;
@@ -140,7 +141,7 @@ pub fn variant_of(
     v: usize,
 ) -> [u8; rules::TILE_CELLS]
     requires { ⌜ Sample (now sample) rows cols × (v ≤ maxTiles) ⌝ }
-    ensures { λ t. ⌜ t ≡ variant (now (sample .entry)) rows cols rotations reflections v ⌝ }
+    ensures { λ t. ⌜ t ≡ variant (before sample) rows cols rotations reflections v ⌝ }
 {
     let n = forms_of(rotations, reflections);
     let across = starts_along(cols);

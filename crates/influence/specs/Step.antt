@@ -7,6 +7,7 @@ use lib.ListN.{length, getD}
 use lib.Ieee.{Float, nan, ne}
 use Rattle.base.specs.Counting.{pick}
 use Rattle.base.specs.Tables.{tab}
+use Rattle.base.specs.Regions.{overRegion}
 use Rattle.rules.specs.Floats.{zero64, one64, times, over}
 use Rattle.rules.specs.Probabilities.{Region, Block, productAt, quotientAt}
 use Rattle.rules.specs.declared.Span.{Span}
@@ -38,8 +39,11 @@ abbrev pub blockRow : ℕ → ℕ → ℕ → Span
 blockRow rows cols i = pick (ltb i rows) (record { 0 = i * cols; 1 = i * cols + cols }) (record { 0 = 0; 1 = 0 })
 
 -- one colour's plane, by its own part of the block
+abbrev pub colourStep : Bool → Region → Block → ℕ → ℕ → Float → Float
+colourStep reverse g b r c p = changedAt reverse g b p zero r c
+
 unfoldable pub colourChanged : Bool → ℕ → Region → Block → List Float → List Float
-colourChanged reverse cols g b plane = tab (length plane) (λ k. changedAt reverse g b (getD plane k nan) zero (k / cols) (k % cols))
+colourChanged reverse cols g b plane = overRegion nan (colourStep reverse g b) cols (g .rows .0) (g .rows .1) (g .cols .0) (g .cols .1) plane
 
 -- those of all colours: each probability changed by its colour, row and column
 unfoldable pub coloursChanged : Bool → ℕ → ℕ → Region → Block → List Float → List Float

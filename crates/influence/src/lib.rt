@@ -8,6 +8,7 @@ ghost use Rattle.base.specs.Counting.{pick};
 ghost use Rattle.base.specs.Tables.{tab};
 ghost use Rattle.rules.specs.Bounds.{maxInfluenceSide};
 ghost use Rattle.rules.specs.Floats.{zero64, one64, over};
+ghost use Rattle.rules.specs.Promises.{before, after};
 ghost use Rattle.rules.specs.Probabilities.{clippedTo};
 ghost use Rattle.influence.specs.Step.{regionIn, blockOf, multipliedBy, dividedBy, changedEntry, blockRow, colourChanged, coloursChanged};
 ghost use Rattle.influence.specs.Fits.{ColourFits, StepFits};
@@ -15,14 +16,14 @@ use rules::Span;
 
 // Beyond the block the factor is 1.0.
 fn factor(factors: &[f64], j: usize) -> f64
-    ensures { λ r. ⌜ r ≡ pick (ltb j (length (now (factors .entry)))) (getD (now (factors .entry)) j nan) one64 ⌝ }
+    ensures { λ r. ⌜ r ≡ pick (ltb j (length (before factors))) (getD (before factors) j nan) one64 ⌝ }
 {
     if j < factors.len() { factors[j] } else { 1.0 }
 }
 
 // The cells of one row by the block's factors for that row. Multiplying by 1.0 is a step of the text and is taken.
 fn multiply_row(row: &mut [f64], factors: &[f64])
-    ensures { λ _. ⌜ now (row .exit) ≡ tab (length (now (row .entry))) (λ j. multipliedBy (now (factors .entry)) (getD (now (row .entry)) j nan) j) ⌝ }
+    ensures { λ _. ⌜ after row ≡ tab (length (before row)) (λ j. multipliedBy (before factors) (getD (before row) j nan) j) ⌝ }
 {
     let mut j = 0;
     while j < row.len() {
@@ -40,7 +41,7 @@ fn quotient(p: f64, factor: f64) -> f64
 
 // Cells beyond the block are not visited.
 fn divide_row(row: &mut [f64], factors: &[f64])
-    ensures { λ _. ⌜ now (row .exit) ≡ tab (length (now (row .entry))) (λ j. dividedBy (now (factors .entry)) (getD (now (row .entry)) j nan) j) ⌝ }
+    ensures { λ _. ⌜ after row ≡ tab (length (before row)) (λ j. dividedBy (before factors) (getD (before row) j nan) j) ⌝ }
 {
     let end = floats::least(row.len(), factors.len());
     let mut j = 0;
@@ -51,7 +52,7 @@ fn divide_row(row: &mut [f64], factors: &[f64])
 }
 
 fn change_row(reverse: bool, row: &mut [f64], factors: &[f64])
-    ensures { λ _. ⌜ now (row .exit) ≡ tab (length (now (row .entry))) (λ j. changedEntry reverse (now (factors .entry)) (getD (now (row .entry)) j nan) j) ⌝ }
+    ensures { λ _. ⌜ after row ≡ tab (length (before row)) (λ j. changedEntry reverse (before factors) (getD (before row) j nan) j) ⌝ }
 {
     if reverse {
         divide_row(row, factors);
@@ -84,7 +85,7 @@ fn change_colour(
     bcols: usize,
 )
     requires { ⌜ ColourFits (now plane) (now block) cols brows bcols rowspan colspan ⌝ }
-    ensures { λ _. ⌜ now (plane .exit) ≡ colourChanged reverse cols (regionIn rowspan colspan) (blockOf brows bcols (now (block .entry))) (now (plane .entry)) ⌝ }
+    ensures { λ _. ⌜ after plane ≡ colourChanged reverse cols (regionIn rowspan colspan) (blockOf brows bcols (before block)) (before plane) ⌝ }
 {
     let mut i = 0;
     let mut r = rowspan.0;
@@ -114,7 +115,7 @@ pub fn change_colours(
     bcols: usize,
 )
     requires { ⌜ StepFits (now plane) (now block) cells cols count brows bcols rowspan colspan ⌝ }
-    ensures { λ _. ⌜ now (plane .exit) ≡ coloursChanged reverse cells cols (regionIn rowspan colspan) (blockOf brows bcols (now (block .entry))) (now (plane .entry)) ⌝ }
+    ensures { λ _. ⌜ after plane ≡ coloursChanged reverse cells cols (regionIn rowspan colspan) (blockOf brows bcols (before block)) (before plane) ⌝ }
 {
     let entries = brows * bcols;
     let mut t = 0;

@@ -1,12 +1,13 @@
 -- The cells of which a score is the mean, row by row as the code visits them: for a cell of the grid only rows above it and columns
 -- left of it can be missing. And the two scores' terms as one.
-use Prim.Native.Nat.{ℕ, zero, suc, _+_, _-_, _*_}
+use Prim.Native.Nat.{ℕ, zero, suc, _+_, _-_}
 use mathlib.Core.Bool.{Bool, true, false}
 use mathlib.Core.List.{List, [], _++_}
 use lib.Dec.{leb}
 use lib.Ieee.{Float}
 use Rattle.base.specs.Counting.{pick}
 use Rattle.base.specs.Tables.{those}
+use Rattle.rules.specs.Grid.{cellAt, numberOf}
 use Rattle.rules.specs.Scores.{fraction, squaredFraction, meanOf}
 
 -- the fraction of a cell, squared where `squared` says so
@@ -16,7 +17,7 @@ termOf true counts tiles k = squaredFraction counts tiles k
 
 -- row i of the box of the cell (r, c): columns c-2..=c, from the first that the grid has
 abbrev pub placeIn : ℕ → ℕ → ℕ → ℕ → ℕ → ℕ
-placeIn cols r c i j = (r + i - 2) * cols + (c + j - 2)
+placeIn cols r c i j = numberOf cols (cellAt (r + i - 2) (c + j - 2))
 
 unfoldable pub boxRow : ℕ → ℕ → ℕ → ℕ → List ℕ
 boxRow cols r c i = those 3 (leb (2 - c)) (placeIn cols r c i)

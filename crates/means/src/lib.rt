@@ -6,6 +6,7 @@ ghost use Prim.Native.Nat.{_-_, _<_, _≤_};
 ghost use lib.ListN.{length};
 ghost use Rattle.base.specs.Tables.{fold};
 ghost use Rattle.rules.specs.Tests.{tileNumber};
+ghost use Rattle.rules.specs.Promises.{before};
 ghost use Rattle.rules.specs.Floats.{zero64};
 ghost use Rattle.rules.specs.Scores.{plusTerm};
 ghost use Rattle.means.specs.Box.{termOf, boxRow, boxRows, scoreAt};
@@ -14,7 +15,7 @@ ghost use Rattle.means.specs.Fits.{CellFits};
 // Fraction = count / tiles.
 fn term(squared: bool, counts: &[u32], tiles: usize, k: usize) -> f64
     requires { ⌜ (tileNumber tiles ≡ true) × (k < length (now counts)) ⌝ }
-    ensures { λ r. ⌜ r ≡ termOf squared (now (counts .entry)) tiles k ⌝ }
+    ensures { λ r. ⌜ r ≡ termOf squared (before counts) tiles k ⌝ }
 {
     let fraction = counts[k] as f64 / tiles as f64;
     if squared {
@@ -43,7 +44,7 @@ fn add_row(
     i: usize,
 ) -> f64
     requires { ⌜ CellFits (now counts) cols tiles r c × (2 - r ≤ i) × (i < 3) ⌝ }
-    ensures { λ s. ⌜ s ≡ fold (plusTerm (termOf squared (now (counts .entry)) tiles)) sum (boxRow cols r c i) ⌝ }
+    ensures { λ s. ⌜ s ≡ fold (plusTerm (termOf squared (before counts) tiles)) sum (boxRow cols r c i) ⌝ }
 {
     let mut total = sum;
     let mut j = missing(c);
@@ -57,7 +58,7 @@ fn add_row(
 // The sum over the box, row by row from 0.0.
 fn box_sum(squared: bool, counts: &[u32], tiles: usize, cols: usize, r: usize, c: usize) -> f64
     requires { ⌜ CellFits (now counts) cols tiles r c ⌝ }
-    ensures { λ s. ⌜ s ≡ fold (plusTerm (termOf squared (now (counts .entry)) tiles)) zero64 (boxRows 3 cols r c) ⌝ }
+    ensures { λ s. ⌜ s ≡ fold (plusTerm (termOf squared (before counts) tiles)) zero64 (boxRows 3 cols r c) ⌝ }
 {
     let mut total = 0.0;
     let mut i = missing(r);
@@ -71,7 +72,7 @@ fn box_sum(squared: bool, counts: &[u32], tiles: usize, cols: usize, r: usize, c
 // The mean: one division.
 pub fn box_mean(squared: bool, counts: &[u32], tiles: usize, cols: usize, r: usize, c: usize) -> f64
     requires { ⌜ CellFits (now counts) cols tiles r c ⌝ }
-    ensures { λ s. ⌜ s ≡ scoreAt squared (now (counts .entry)) tiles cols r c ⌝ }
+    ensures { λ s. ⌜ s ≡ scoreAt squared (before counts) tiles cols r c ⌝ }
 {
     let cells = (3 - missing(r)) * (3 - missing(c));
     box_sum(squared, counts, tiles, cols, r, c) / cells as f64

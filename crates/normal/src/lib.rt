@@ -7,6 +7,7 @@ ghost use lib.ListN.{length, getD};
 ghost use lib.Ieee.{Float, nan};
 ghost use Rattle.base.specs.Tables.{tab};
 ghost use Rattle.rules.specs.Floats.{over};
+ghost use Rattle.rules.specs.Promises.{before, after};
 ghost use Rattle.rules.specs.Probabilities.{larger, largestOf, totalOf, usable, normalised};
 
 fn larger(a: f64, b: f64) -> f64
@@ -17,7 +18,7 @@ fn larger(a: f64, b: f64) -> f64
 
 // The largest, 0.0 at the least.
 fn largest(ps: &[f64]) -> f64
-    ensures { λ r. ⌜ r ≡ largestOf (now (ps .entry)) ⌝ }
+    ensures { λ r. ⌜ r ≡ largestOf (before ps) ⌝ }
 {
     let mut most = 0.0;
     let mut k = 0;
@@ -30,7 +31,7 @@ fn largest(ps: &[f64]) -> f64
 
 // The sum of p / most, by colour upwards from 0.0.
 fn total(ps: &[f64], most: f64) -> f64
-    ensures { λ r. ⌜ r ≡ totalOf most (now (ps .entry)) ⌝ }
+    ensures { λ r. ⌜ r ≡ totalOf most (before ps) ⌝ }
 {
     let mut sum = 0.0;
     let mut k = 0;
@@ -43,7 +44,7 @@ fn total(ps: &[f64], most: f64) -> f64
 
 // Each p becomes p / most / sum.
 fn share_out(ps: &mut [f64], most: f64, sum: f64)
-    ensures { λ _. ⌜ now (ps .exit) ≡ map (λ (p : Float). over (over p most) sum) (now (ps .entry)) ⌝ }
+    ensures { λ _. ⌜ after ps ≡ map (λ (p : Float). over (over p most) sum) (before ps) ⌝ }
 {
     let mut k = 0;
     while k < ps.len() {
@@ -53,7 +54,7 @@ fn share_out(ps: &mut [f64], most: f64, sum: f64)
 }
 
 pub fn fill(ps: &mut [f64], x: f64)
-    ensures { λ _. ⌜ now (ps .exit) ≡ map (λ (_ : Float). x) (now (ps .entry)) ⌝ }
+    ensures { λ _. ⌜ after ps ≡ map (λ (_ : Float). x) (before ps) ⌝ }
 {
     let mut k = 0;
     while k < ps.len() {
@@ -76,7 +77,7 @@ fn usable(most: f64) -> bool
 // The probabilities of one place, normalised where they stand: one for each colour.
 pub fn normalise(ps: &mut [f64], count: u32)
     requires { ⌜ count ≡ length (now ps) ⌝ }
-    ensures { λ _. ⌜ now (ps .exit) ≡ normalised (now (ps .entry)) ⌝ }
+    ensures { λ _. ⌜ after ps ≡ normalised (before ps) ⌝ }
 {
     let most = largest(ps);
     if !usable(most) {
@@ -90,7 +91,7 @@ pub fn normalise(ps: &mut [f64], count: u32)
 // Colour t's probability at the cell `at`, for each entry t of out.
 pub fn gather(plane: &[f64], cells: usize, at: usize, out: &mut [f64])
     requires { ⌜ (at < cells) × (length (now plane) ≡ length (now out) * cells) ⌝ }
-    ensures { λ _. ⌜ now (out .exit) ≡ tab (length (now (out .entry))) (λ t. getD (now (plane .entry)) (t * cells + at) nan) ⌝ }
+    ensures { λ _. ⌜ after out ≡ tab (length (before out)) (λ t. getD (before plane) (t * cells + at) nan) ⌝ }
 {
     let mut t = 0;
     while t < out.len() {

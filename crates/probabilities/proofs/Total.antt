@@ -3,15 +3,15 @@
 -- Assumes nothing.
 use Prim.Native.Nat.{ℕ, zero, suc, _+_, _*_, _^_, _<_, _≤_}
 use mathlib.Core.Path.{_≡_, refl, sym, _∙_, ap, subst}
-use mathlib.Core.Bool.{Bool, true, false, not, _&&_, _||_, cond, true≢false, false≢true}
+use mathlib.Core.Bool.{Bool, true, false, not, _&&_, _||_, true≢false, false≢true}
 use mathlib.Core.Logic.{_⊎_, inl, inr}
 use mathlib.Core.List.{List, [], _∷_}
-use native.Mathlib.Nat.{le-trans, le-of-eq, le-of-lt, le-refl, lt-irrefl, zero-lt-suc, eq-zero-or-pos, zero-mul, one-mul, mul-one, add-zero, sub-zero, mul-comm, mul-assoc, mul-left-comm, add-mul, mul-pos, mul-le-mul-right, add-le-add}
+use native.Mathlib.Nat.{le-trans, le-of-eq, le-of-lt, le-refl, lt-irrefl, zero-lt-suc, eq-zero-or-pos, zero-mul, one-mul, mul-one, add-zero, sub-zero, mul-comm, mul-assoc, add-mul, mul-pos, mul-le-mul-right, add-le-add}
 use native.Mathlib.Omega.{arith}
-use lib.Dec.{T, ltb, eqb, eqb→eq, eqb·suc-zero, lt→ltb, lit≤}
+use lib.Dec.{T, ltb, eqb, eqb→eq, lt→ltb, lit≤}
 use lib.IntN.{ℤ}
 use lib.ListN.{length, getD}
-use lib.Ieee.{Float, nan, inf, fin, binary64, up, down, unlike, round, sum, add, div, eq, le, lt, ofBits}
+use lib.Ieee.{Float, nan, inf, fin, binary64, up, down, round, sum, add, eq, le, lt, ofBits}
 use lib.Ieee.Fits.{up-pos, down-pos, and-l}
 use lib.Ieee.Exact.{HasValue, round-exact}
 use lib.Ieee.Order.{transfer, round-mono}
@@ -22,7 +22,7 @@ use Rattle.base.specs.Tables.{fold}
 use Rattle.base.proofs.Bools.{and-left, by-test, pick-yes, pick-no}
 use Rattle.rules.specs.Floats.{zero64, plus, over, isNumber}
 use Rattle.rules.specs.Probabilities.{larger, largestOf, plusShare, totalOf, usable}
-use Rattle.floats.proofs.Numbers.{upward, round-upward, zero-upward}
+use Rattle.floats.proofs.Numbers.{upward, round-upward, zero-upward, over-fin}
 
 -- ---- between whole numbers
 
@@ -69,7 +69,7 @@ round-between lo hi a c p l h low high =
     (round-mono binary64 a c hi 1 p (zero-lt-suc 0) (subst (λ (x : ℕ). x ≤ hi * c) (sym (mul-one a)) high))
 
 parts : (a b u v : ℕ) → (a + b) * (u * v) ≡ a * u * v + b * v * u
-parts a b u v = simp (add-mul, mul-assoc, mul-comm, mul-left-comm)
+parts a b u v = simp (add-mul, mul-assoc, mul-comm)
 
 plus-between : (a b c d : ℕ) (x y : Float) → a + c ≤ 2 ^ 53 → b + d ≤ 2 ^ 53 → Between a b x → Between c d y → Between (a + c) (b + d) (plus x y)
 unfolding add sum
@@ -241,10 +241,6 @@ round-zero a c z p = round-exact binary64 true a c 0 0 p (lit≤ tt) (lit≤ tt)
 abbrev Share : Float → Type 0
 Share y = Between 0 1 y ⊎ ((m : ℕ) × (e : ℤ) × (y ≡ fin true m e) × (m * up e ≡ 0))
 
-divides : (s : Bool) (m : ℕ) (e : ℤ) (n : ℕ) (d : ℤ) → over (fin s m e) (fin false (suc n) d) ≡ round binary64 (unlike s false) (m * up e * down d) (suc n * up d * down e)
-unfolding div
-divides s m e n d = ap (λ (b : Bool). cond b (cond (eqb m 0) nan (inf (unlike s false))) (round binary64 (unlike s false) (m * up e * down d) (suc n * up d * down e))) (eqb·suc-zero n)
-
 below-pos : (n : ℕ) (d e : ℤ) → 0 < suc n * up d * down e
 below-pos n d e = mul-pos (mul-pos (zero-lt-suc n) (up-pos d)) (down-pos e)
 
@@ -261,11 +257,11 @@ share-of (fin false (suc n) d) (fin true m e) q h =
     let v = round-zero (m * up e * down d) c none (below-pos n d e) in
     let x = round binary64 true (m * up e * down d) c in
     let f = negative x (m * up e * down d) c v in
-    inr (f .0, f .1, divides true m e n d ∙ f .2, subst Zero (f .2) (zero-of-value x (m * up e * down d) c v none (below-pos n d e)))
+    inr (f .0, f .1, over-fin true m e false n d ∙ f .2, subst Zero (f .2) (zero-of-value x (m * up e * down d) c v none (below-pos n d e)))
 share-of (fin false (suc n) d) (fin false m e) q h =
     let c = suc n * up d * down e in
     inl
-    (subst (λ (y : Float). Between 0 1 y) (sym (divides false m e n d))
+    (subst (λ (y : Float). Between 0 1 y) (sym (over-fin false m e false n d))
     (round-between 0 1 (m * up e * down d) c (below-pos n d e) (lit≤ tt) (lit≤ tt)
     (le-trans (le-of-eq (zero-mul c)) (omega arith))
     (le-trans h (le-of-eq (sym (one-mul c))))))
@@ -277,7 +273,7 @@ share-full (fin true n d) q = absurd q
 share-full (fin false zero d) q = absurd q
 share-full (fin false (suc n) d) q =
     let c = suc n * up d * down d in
-    subst (λ (y : Float). Between 1 1 y) (sym (divides false (suc n) d n d))
+    subst (λ (y : Float). Between 1 1 y) (sym (over-fin false (suc n) d false n d))
     (round-between 1 1 c c (below-pos n d d) (lit≤ tt) (lit≤ tt) (le-of-eq (one-mul c)) (le-of-eq (sym (one-mul c))))
 
 widened : (lo k : ℕ) (x : Float) → Between lo k x → Between lo (k + 1) x

@@ -7,6 +7,7 @@ use mathlib.Core.List.{List}
 use native.Mathlib.Nat.{mul-le-mul-right}
 use native.Mathlib.Omega.{arith}
 use lib.Ieee.{Float}
+use Rattle.base.specs.Regions.{RegionFits}
 use Rattle.rules.specs.Tests.{boardSides}
 use Rattle.rules.specs.Places.{cellOf}
 use Rattle.rules.specs.Probabilities.{Block, clippedTo, regionOf, changedBy, multiplied, divided}
@@ -15,7 +16,6 @@ use Rattle.rules.specs.declared.Offset.{Offset}
 use Rattle.rules.specs.declared.Span.{Span}
 use Rattle.checks.proofs.Sides.{board-cols}
 use Rattle.places.proofs.Indices.{Placed, spanRound, row-span, col-span}
-use Rattle.floats.specs.Spans.{RegionFits}
 use Rattle.influence.specs.Step.{regionIn, changedAt, coloursChanged}
 use Rattle.probabilities.specs.Calls.{stepped}
 
@@ -32,9 +32,10 @@ module _ (rows cols : ℕ) (w : World) (o : Offset) (k : ℕ) (p : Placed rows c
   unfolding regionOf
   region-is = rw (r-is, c-is, row-span rows cols w o (p .boarded) k, col-span rows cols w o (p .boarded) k)
 
-  pub region-fits : boardSides rows cols ≡ true → RegionFits (rows * cols) cols rs cs
+  pub region-fits : boardSides rows cols ≡ true → RegionFits (rows * cols) cols (rs .0) (rs .1) (cs .0) (cs .1)
   region-fits e =
       let x = cellOf w o .0 in
       let y = cellOf w o .1 in
       let ends : min (x + k + 1) rows ≤ rows = omega arith in
-      rw (r-is, c-is) (record { wide = board-cols rows cols e .0; down = omega arith; across = omega arith; ends = omega arith; room = mul-le-mul-right cols ends })
+      rw (r-is, c-is)
+      (record { wide = board-cols rows cols e .0; down = omega arith; across = omega arith; ends = omega arith; room = mul-le-mul-right cols ends })

@@ -3,11 +3,16 @@ use Prim.Native.Nat.{ℕ}
 use mathlib.Core.Bool.{Bool, true, false}
 use mathlib.Core.List.{List}
 use lib.Ieee.{Float}
-use Rattle.rules.specs.Probabilities.{Block, multiplied, divided}
+use Rattle.rules.specs.Promises.{Writes}
+use Rattle.rules.specs.Probabilities.{Block, multiplied, divided, influenceChecks}
 use Rattle.rules.specs.declared.World.{World}
 use Rattle.rules.specs.declared.Offset.{Offset}
+use Rattle.rules.specs.declared.Written.{Written}
 
 -- the call's new plane
 unfoldable pub stepped : Bool → ℕ → ℕ → Block → World → Offset → ℕ → List Float → List Float
 stepped false rows cols b w o k plane = multiplied rows cols b w o k plane
 stepped true rows cols b w o k plane = divided rows cols b w o k plane
+
+abbrev pub Changes : Bool → ℕ → ℕ → ℕ → Block → World → Offset → ℕ → List Float → Written → List Float → Type 0
+Changes reverse rows cols count b w o k old = Writes (influenceChecks old rows cols count b w o k) (stepped reverse rows cols b w o k old) old

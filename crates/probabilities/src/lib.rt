@@ -1,9 +1,8 @@
 // Document 01, "Probabilities": the three calls, their checks first. All probabilities stand in one plane, colour by colour, each row by
 // row.
-ghost use Rattle.rules.specs.Probabilities.{normalised, probabilitiesAt, normaliseChecks, multiplied, divided, influenceChecks};
-ghost use Rattle.floats.specs.Calls.{Writes};
+ghost use Rattle.rules.specs.Promises.{before, after, Normalises, Multiplies, Divides};
 ghost use Rattle.influence.specs.Step.{blockOf};
-ghost use Rattle.probabilities.specs.Calls.{stepped};
+ghost use Rattle.probabilities.specs.Calls.{Changes};
 use probability_checks::normalise_refused;
 use probability_checks::step_refused;
 use rules::Offset;
@@ -22,9 +21,7 @@ pub fn get_tile_probabilities_at_position(
     offset: Offset,
     out: &mut [f64],
 ) -> Written
-    ensures { λ a. ⌜ Writes (normaliseChecks (now (probabilities .entry)) rows cols count position offset (now (out .entry)))
-        (normalised (probabilitiesAt (now (probabilities .entry)) rows cols count position offset))
-        (now (out .entry)) a (now (out .exit)) ⌝ }
+    ensures { λ a. ⌜ Normalises (before probabilities) rows cols count position offset (before out) a (after out) ⌝ }
 {
     let refused = normalise_refused(probabilities, rows, cols, count, position, offset, out);
     if refused != 0 {
@@ -48,9 +45,8 @@ fn change_probabilities(
     offset: Offset,
     radius: usize,
 ) -> Written
-    ensures { λ a. ⌜ Writes (influenceChecks (now (probabilities .entry)) rows cols count (blockOf brows bcols (now (block .entry))) position offset radius)
-        (stepped reverse rows cols (blockOf brows bcols (now (block .entry))) position offset radius (now (probabilities .entry)))
-        (now (probabilities .entry)) a (now (probabilities .exit)) ⌝ }
+    ensures { λ a. ⌜ Changes reverse rows cols count (blockOf brows bcols (before block)) position offset radius
+        (before probabilities) a (after probabilities) ⌝ }
 {
     let refused = step_refused(
         probabilities,
@@ -101,9 +97,8 @@ pub fn update_probabilities(
     offset: Offset,
     radius: usize,
 ) -> Written
-    ensures { λ a. ⌜ Writes (influenceChecks (now (probabilities .entry)) rows cols count (blockOf blockrows blockcols (now (block .entry))) position offset radius)
-        (multiplied rows cols (blockOf blockrows blockcols (now (block .entry))) position offset radius (now (probabilities .entry)))
-        (now (probabilities .entry)) a (now (probabilities .exit)) ⌝ }
+    ensures { λ a. ⌜ Multiplies rows cols count (blockOf blockrows blockcols (before block)) position offset radius
+        (before probabilities) a (after probabilities) ⌝ }
 {
     change_probabilities(
         false,
@@ -133,9 +128,8 @@ pub fn revert_probabilities(
     offset: Offset,
     radius: usize,
 ) -> Written
-    ensures { λ a. ⌜ Writes (influenceChecks (now (probabilities .entry)) rows cols count (blockOf blockrows blockcols (now (block .entry))) position offset radius)
-        (divided rows cols (blockOf blockrows blockcols (now (block .entry))) position offset radius (now (probabilities .entry)))
-        (now (probabilities .entry)) a (now (probabilities .exit)) ⌝ }
+    ensures { λ a. ⌜ Divides rows cols count (blockOf blockrows blockcols (before block)) position offset radius
+        (before probabilities) a (after probabilities) ⌝ }
 {
     change_probabilities(
         true,

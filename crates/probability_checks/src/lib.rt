@@ -4,9 +4,9 @@ ghost use mathlib.Core.Bool.{_&&_};
 ghost use Rattle.base.specs.Counting.{within};
 ghost use Rattle.base.specs.Refusal.{refusal};
 ghost use Rattle.rules.specs.Bounds.{maxInfluenceSide};
-ghost use Rattle.rules.specs.Probabilities.{normaliseChecks, influenceChecks};
+ghost use Rattle.rules.specs.Promises.{before};
+ghost use Rattle.rules.specs.Probabilities.{normaliseChecks, influenceSizes, influenceChecks};
 ghost use Rattle.influence.specs.Step.{blockOf};
-ghost use Rattle.probability_checks.specs.Sizes.{stepSizes};
 use rules::Offset;
 use rules::World;
 
@@ -20,7 +20,7 @@ pub fn normalise_refused(
     offset: Offset,
     out: &[f64],
 ) -> u8
-    ensures { λ r. ⌜ r ≡ refusal (normaliseChecks (now (plane .entry)) rows cols count position offset (now (out .entry))) ⌝ }
+    ensures { λ r. ⌜ r ≡ refusal (normaliseChecks (before plane) rows cols count position offset (before out)) ⌝ }
 {
     if !checks::board_sides(rows, cols) {
         return rules::SHAPE;
@@ -76,7 +76,7 @@ fn sizes_refused(
     bcols: usize,
     radius: usize,
 ) -> u8
-    ensures { λ r. ⌜ r ≡ refusal (stepSizes (now (plane .entry)) rows cols count (blockOf brows bcols (now (block .entry))) radius) ⌝ }
+    ensures { λ r. ⌜ r ≡ refusal (influenceSizes (before plane) rows cols count (blockOf brows bcols (before block)) radius) ⌝ }
 {
     if !checks::board_sides(rows, cols) {
         return rules::SHAPE;
@@ -112,7 +112,7 @@ pub fn step_refused(
     offset: Offset,
     radius: usize,
 ) -> u8
-    ensures { λ r. ⌜ r ≡ refusal (influenceChecks (now (plane .entry)) rows cols count (blockOf brows bcols (now (block .entry))) position offset radius) ⌝ }
+    ensures { λ r. ⌜ r ≡ refusal (influenceChecks (before plane) rows cols count (blockOf brows bcols (before block)) position offset radius) ⌝ }
 {
     let refused = sizes_refused(plane, rows, cols, count, block, brows, bcols, radius);
     if refused != 0 {

@@ -3,7 +3,6 @@
 -- Assumes nothing.
 use mathlib.Core.Path.{_≡_}
 use mathlib.Core.List.{[]}
-use Rattle.base.specs.Refusal.{Gives}
 use Rattle.base.proofs.Chain.{coincide, gives-coincide}
 use Rattle.rules.specs.Forced.{queueOf, grownBy, takenFrom, queueEmpty, queueLength}
 use Rattle.rules.specs.declared.ForcedPositions.{ForcedPositions}
@@ -14,6 +13,7 @@ use Rattle.rules.specs.declared.Verdict.{Verdict}
 use Rattle.rules.specs.declared.Number.{Number}
 use Rattle.rules.specs.declared.Next.{Next}
 use Rattle.rules.specs.declared.Written.{Written}
+use Rattle.queue.specs.Promises.{TakesFrom, AddsTo}
 
 pub new : {r s : ForcedPipeline} → r ≡ queueOf [] → s ≡ queueOf [] → r ≡ s
 new p q = coincide p q
@@ -31,12 +31,9 @@ is-empty queue p q = coincide p q
 pub len : (queue : ForcedPipeline) {r s : Number} → r ≡ queueLength queue → s ≡ queueLength queue → r ≡ s
 len queue p q = coincide p q
 
-pub take-next-from : (entry : ForcedPipeline) {r s : Next} {m n : ForcedPipeline}
-    → Gives (takenFrom entry .next) (takenFrom entry .queue) r m → Gives (takenFrom entry .next) (takenFrom entry .queue) s n
-    → (r ≡ s) × (m ≡ n)
-take-next-from entry p q = gives-coincide p q
+pub take-next-from : (old : ForcedPipeline) {r s : Next} {m n : ForcedPipeline} → TakesFrom old r m → TakesFrom old s n → (r ≡ s) × (m ≡ n)
+take-next-from old p q = gives-coincide p q
 
-pub add-positions-to : (entry : ForcedPipeline) (positions : ForcedPositions) {r s : Written} {m n : ForcedPipeline}
-    → Gives (grownBy entry positions .answer) (grownBy entry positions .queue) r m
-    → Gives (grownBy entry positions .answer) (grownBy entry positions .queue) s n → (r ≡ s) × (m ≡ n)
-add-positions-to entry positions p q = gives-coincide p q
+pub add-positions-to : (positions : ForcedPositions) (old : ForcedPipeline) {r s : Written} {m n : ForcedPipeline} → AddsTo positions old r m
+    → AddsTo positions old s n → (r ≡ s) × (m ≡ n)
+add-positions-to positions old p q = gives-coincide p q

@@ -2,8 +2,9 @@
 // two calls on a queue that is lent for change.
 ghost use mathlib.Core.Path.{_≡_};
 ghost use mathlib.Core.List.{[]};
-ghost use Rattle.base.specs.Refusal.{Gives};
 ghost use Rattle.rules.specs.Forced.{queueOf, grownBy, takenFrom, queueEmpty, queueLength};
+ghost use Rattle.rules.specs.Promises.{before, after};
+ghost use Rattle.queue.specs.Promises.{TakesFrom, AddsTo};
 use rules::ForcedPipeline;
 use rules::ForcedPositions;
 use rules::Grown;
@@ -98,7 +99,7 @@ fn grown_queue(grown: Grown) -> ForcedPipeline
 
 // Taking, from a queue that is lent for change.
 pub fn take_next_from(queue: &mut ForcedPipeline) -> Next
-    ensures { λ r. ⌜ Gives (takenFrom (now (queue .entry)) .next) (takenFrom (now (queue .entry)) .queue) r (now (queue .exit)) ⌝ }
+    ensures { λ r. ⌜ TakesFrom (before queue) r (after queue) ⌝ }
 {
     let old = *queue;
     let taken = take_next(old);
@@ -109,7 +110,7 @@ pub fn take_next_from(queue: &mut ForcedPipeline) -> Next
 
 // Adding, to a queue that is lent for change.
 pub fn add_positions_to(queue: &mut ForcedPipeline, positions: ForcedPositions) -> Written
-    ensures { λ r. ⌜ Gives (grownBy (now (queue .entry)) positions .answer) (grownBy (now (queue .entry)) positions .queue) r (now (queue .exit)) ⌝ }
+    ensures { λ r. ⌜ AddsTo positions (before queue) r (after queue) ⌝ }
 {
     let old = *queue;
     let grown = add_positions(old, positions);

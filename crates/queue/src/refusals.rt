@@ -1,7 +1,7 @@
 // The checks of the queue's calls, made once, on entry: SHAPE, then PLACE. ROOM is left to the adding itself.
 ghost use mathlib.Core.Path.{_≡_};
 ghost use Prim.Native.Nat.{_≤_};
-ghost use Rattle.base.specs.Refusal.{accepted, refusal};
+ghost use Rattle.base.specs.Refusal.{refusal};
 ghost use Rattle.rules.specs.Bounds.{queueRoom, addedRoom};
 ghost use Rattle.rules.specs.Forced.{queued, offered, allOnWall, queueChecks, entryChecks};
 use rules::ForcedPipeline;
@@ -55,7 +55,7 @@ pub fn of_queue(queue: ForcedPipeline) -> u8
 }
 
 pub fn of_adding(queue: ForcedPipeline, positions: ForcedPositions) -> u8
-    ensures { λ r. ⌜ r ≡ refusal (entryChecks queue positions accepted) ⌝ }
+    ensures { λ r. ⌜ r ≡ refusal (entryChecks queue positions) ⌝ }
 {
     if rules::QUEUE_ROOM < queue.len {
         return rules::SHAPE;

@@ -16,8 +16,9 @@ use Rattle.base.specs.Counting.{some, first}
 use Rattle.base.proofs.Bools.{never, by-test, and-no-left, and-no-right}
 use Rattle.base.proofs.Numbers.{row-of, col-of}
 use Rattle.base.proofs.Counted.{some-none, some-is, some-next, first-is, first-none}
-use Rattle.rules.specs.Grid.{Shape}
+use Rattle.rules.specs.Grid.{numberOf, Shape}
 use Rattle.rules.specs.Forced.{listedAt, deadAt}
+use Rattle.rules.specs.declared.Cell.{Cell}
 use Rattle.rules.specs.declared.DeadEnd.the-variants.{At, Nowhere}
 use Rattle.scan.specs.Scanned.{foundBy}
 
@@ -25,12 +26,12 @@ none-of : (test : ℕ → Bool) (n : ℕ) → some n test ≡ false → (k : ℕ
 none-of test n e k l = by-test (test k) (λ t. never (some n test) (some-is test n k l t) e) (λ t. t)
 
 module _ (n cols : ℕ) (test : ℕ → Bool) where
-  pub found-at : (r c : ℕ) → c < cols → r * cols + c < n → some (r * cols + c) test ≡ false → test (r * cols + c) ≡ true
-      → At (record { 0 = r; 1 = c }) ≡ foundBy n cols test
+  pub found-at : (cell : Cell) → cell .1 < cols → numberOf cols cell < n → some (numberOf cols cell) test ≡ false → test (numberOf cols cell) ≡ true
+      → At cell ≡ foundBy n cols test
   unfolding foundBy
-  found-at r c l in-plane e t =
-      let f : first n test ≡ r * cols + c = first-is test n (r * cols + c) in-plane t (none-of test (r * cols + c) e) in
-      rw (f, lt-ltb (r * cols + c) n in-plane, row-of r {c = c} {cols = cols} l, col-of r {c = c} {cols = cols} l)
+  found-at cell l in-plane e t =
+      let f : first n test ≡ numberOf cols cell = first-is test n (numberOf cols cell) in-plane t (none-of test (numberOf cols cell) e) in
+      rw (f, lt-ltb (numberOf cols cell) n in-plane, row-of (cell .0) {c = cell .1} {cols = cols} l, col-of (cell .0) {c = cell .1} {cols = cols} l)
 
   pub found-none : some n test ≡ false → Nowhere ≡ foundBy n cols test
   unfolding foundBy

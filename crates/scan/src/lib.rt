@@ -1,18 +1,18 @@
 // Document 01, "Fit", the dead end: the text's `check_for_contradiction`. A cell that is laid, or has no weight above 1, is not listed.
 ghost use mathlib.Core.Path.{_≡_};
-ghost use Prim.Native.Nat.{_+_, _*_};
 ghost use Rattle.base.specs.Refusal.{refusal};
-ghost use Rattle.rules.specs.Grid.{flat};
-ghost use Rattle.rules.specs.Forced.{deadAt, scanChecks, deadEnd};
+ghost use Rattle.rules.specs.Grid.{numberOf, flat};
+ghost use Rattle.rules.specs.Forced.{deadAt, scanLengths, scanChecks, deadEnd};
+ghost use Rattle.rules.specs.Promises.{before};
 ghost use Rattle.pattern.specs.Ready.{OnGrid};
-ghost use Rattle.scan.specs.Scanned.{Scannable, scanned, lengthChecks, cellChecks};
+ghost use Rattle.scan.specs.Scanned.{Scannable, scanned, cellChecks};
 use rules::Cell;
 use rules::DeadEnd;
 use rules::Listing;
 
 // The refusal of the sides and lengths, 0 where there is none.
 fn lengths_refused(pieces: &[u32], weights: &[u32], rows: usize, cols: usize, tiles: &[u8]) -> u8
-    ensures { λ r. ⌜ r ≡ refusal (lengthChecks (now (pieces .entry)) (now (weights .entry)) rows cols (now (tiles .entry))) ⌝ }
+    ensures { λ r. ⌜ r ≡ refusal (scanLengths (before pieces) (before weights) rows cols (before tiles)) ⌝ }
 {
     if !checks::board_sides(rows, cols) {
         return rules::SHAPE;
@@ -32,7 +32,7 @@ fn lengths_refused(pieces: &[u32], weights: &[u32], rows: usize, cols: usize, ti
 
 // The refusal of the colour count and of what the planes hold, 0 where there is none.
 fn cells_refused(pieces: &[u32], weights: &[u32], tiles: &[u8], count: u32) -> u8
-    ensures { λ r. ⌜ r ≡ refusal (cellChecks (now (pieces .entry)) (now (weights .entry)) (now (tiles .entry)) count) ⌝ }
+    ensures { λ r. ⌜ r ≡ refusal (cellChecks (before pieces) (before weights) (before tiles) count) ⌝ }
 {
     let no = contents::colours_refused(tiles, count, pieces);
     if no != 0 {
@@ -53,7 +53,7 @@ pub fn scan_refused(
     tiles: &[u8],
     count: u32,
 ) -> u8
-    ensures { λ r. ⌜ r ≡ refusal (scanChecks (now (pieces .entry)) (now (weights .entry)) rows cols (now (tiles .entry)) count) ⌝ }
+    ensures { λ r. ⌜ r ≡ refusal (scanChecks (before pieces) (before weights) rows cols (before tiles) count) ⌝ }
 {
     let refused = lengths_refused(pieces, weights, rows, cols, tiles);
     if refused != 0 {
@@ -75,7 +75,7 @@ fn is_dead_end(
 ) -> bool
     requires { ⌜ Scannable (now pieces) (now weights) rows cols (now tiles) count ⌝ }
     requires { ⌜ OnGrid rows cols (cell .0) (cell .1) ⌝ }
-    ensures { λ r. ⌜ r ≡ deadAt (flat rows cols) (now (tiles .entry)) (now (pieces .entry)) (now (weights .entry)) count (cell .0 * cols + cell .1) ⌝ }
+    ensures { λ r. ⌜ r ≡ deadAt (flat rows cols) (before tiles) (before pieces) (before weights) count (numberOf cols cell) ⌝ }
 {
     let at = cell.0 * cols + cell.1;
     if pieces[at] > rules::BARE_PIECE {
@@ -101,7 +101,7 @@ pub fn first_dead_end(
     count: u32,
 ) -> DeadEnd
     requires { ⌜ Scannable (now pieces) (now weights) rows cols (now tiles) count ⌝ }
-    ensures { λ r. ⌜ r ≡ scanned (now (pieces .entry)) (now (weights .entry)) rows cols (now (tiles .entry)) count ⌝ }
+    ensures { λ r. ⌜ r ≡ scanned flat (before pieces) (before weights) rows cols (before tiles) count ⌝ }
 {
     let mut found = DeadEnd::Nowhere;
     'scan: for row in 0..rows {
@@ -125,7 +125,7 @@ pub fn check_for_contradiction(
     tiles: &[u8],
     count: u32,
 ) -> DeadEnd
-    ensures { λ r. ⌜ r ≡ deadEnd (now (pieces .entry)) (now (weights .entry)) rows cols (now (tiles .entry)) count ⌝ }
+    ensures { λ r. ⌜ r ≡ deadEnd flat (before pieces) (before weights) rows cols (before tiles) count ⌝ }
 {
     let refused = scan_refused(pieces, weights, rows, cols, tiles, count);
     if refused != 0 {

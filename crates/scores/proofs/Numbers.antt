@@ -17,21 +17,22 @@ use Rattle.checks.proofs.Sides.{board-cols, tiles-least, tiles-most}
 use Rattle.rules.specs.Tests.{boardSides, tileNumber}
 use Rattle.rules.specs.Floats.{zero64, floatOf, isFinite, allAre}
 use Rattle.rules.specs.Scores.{fraction, squaredFraction, plusTerm, meanOf, boxCells, scored, layFalls, liftFalls, layScores, liftScores, layScoreChecks, liftScoreChecks}
+use Rattle.rules.specs.Promises.{ScoresLay, ScoresLift}
+use Rattle.rules.proofs.Answered.{was-written}
 use Rattle.rules.specs.declared.World.{World}
 use Rattle.rules.specs.declared.Offset.{Offset}
 use Rattle.rules.specs.declared.Span.{Span}
 use Rattle.rules.specs.declared.Written.the-variants.{Done}
-use Rattle.floats.specs.Calls.{Writes}
 use Rattle.floats.specs.Numbers.{noNan}
 use Rattle.floats.proofs.Numbers.{upward, upward-number, finite-number, plus-upward, square-upward, over-upward, count-upward, count-positive, is-finite, all-at, all-tab, zero-upward}
-use Rattle.floats.proofs.Written.{answered-done}
 use Rattle.means.proofs.Box.{box-is, box-length}
-use Rattle.scores.proofs.Accept.{lays, lifts}
+use Rattle.scores.proofs.Accept.{lay-passes, lift-passes}
 
 pub fraction-upward : (counts : List ℕ) (tiles k : ℕ) → tileNumber tiles ≡ true → T (upward (fraction counts tiles k))
 unfolding fraction
 fraction-upward counts tiles k e =
-    over-upward (floatOf (getD counts k 0)) (floatOf tiles) (count-upward (getD counts k 0)) (count-positive tiles (tiles-least tiles e) (omega (arith, tiles-most tiles e)))
+    over-upward (floatOf (getD counts k 0)) (floatOf tiles) (count-upward (getD counts k 0))
+    (count-positive tiles (tiles-least tiles e) (omega (arith, tiles-most tiles e)))
 
 pub squared-upward : (counts : List ℕ) (tiles k : ℕ) → tileNumber tiles ≡ true → T (upward (squaredFraction counts tiles k))
 unfolding squaredFraction
@@ -46,7 +47,8 @@ module _ (term : ℕ → Float) (terms : (k : ℕ) → T (upward (term k))) wher
   mean-upward : (cells : List ℕ) → 0 < length cells → length cells ≤ 9 → T (upward (meanOf term cells))
   unfolding meanOf
   mean-upward cells p h =
-      over-upward (fold (plusTerm term) zero64 cells) (floatOf (length cells)) (sum-upward zero64 zero-upward cells) (count-positive (length cells) p (omega arith))
+      over-upward (fold (plusTerm term) zero64 cells) (floatOf (length cells)) (sum-upward zero64 zero-upward cells)
+      (count-positive (length cells) p (omega arith))
 
   box-mean-upward : (rows cols r c : ℕ) → r < rows → c < cols → T (upward (meanOf term (boxCells rows cols r c)))
   box-mean-upward rows cols r c r< c< =
@@ -56,8 +58,8 @@ module _ (term : ℕ → Float) (terms : (k : ℕ) → T (upward (term k))) wher
       (subst (λ (x : ℕ). x ≤ 9) (sym n) (mul-le {a = 3 - (2 - r)} {b = 3 - (2 - c)} {m = 3} {n = 3} (omega arith) (omega arith)))
 
   -- the cells that get a score, and those that stay
-  scored-numbers : (rows cols : ℕ) (falls : ℕ → ℕ → Bool) (scores : List Float) → boardSides rows cols ≡ true → length scores ≡ rows * cols → allAre isFinite scores ≡ true
-      → allAre noNan (scored rows cols falls term scores) ≡ true
+  scored-numbers : (rows cols : ℕ) (falls : ℕ → ℕ → Bool) (scores : List Float) → boardSides rows cols ≡ true
+      → length scores ≡ rows * cols → allAre isFinite scores ≡ true → allAre noNan (scored rows cols falls term scores) ≡ true
   unfolding scored
   scored-numbers rows cols falls scores sides long old =
       all-tab noNan (length scores) _
@@ -69,20 +71,20 @@ module _ (term : ℕ → Float) (terms : (k : ℕ) → T (upward (term k))) wher
       (λ e. rw e (finite-number (getD scores k nan) (is-finite (getD scores k nan) (all-at isFinite scores old k h)))))
 
 module _ (scores : List Float) (counts : List ℕ) (rows cols tiles : ℕ) {l : List Float} where
-  pub lay-score-numbers : (w : World) (o : Offset) → Writes (layScoreChecks scores counts rows cols tiles w o) (layScores rows cols counts tiles w o scores) scores Done l
-      → allAre noNan l ≡ true
+  pub lay-score-numbers : (w : World) (o : Offset) → ScoresLay rows cols counts tiles w o scores Done l → allAre noNan l ≡ true
   unfolding layScores
   lay-score-numbers w o done =
-      let d = answered-done (layScoreChecks scores counts rows cols tiles w o) (layScores rows cols counts tiles w o scores) scores done in
-      let s = lays scores counts rows cols tiles w o (d .0) in
+      let d = was-written (layScoreChecks scores counts rows cols tiles w o) (layScores rows cols counts tiles w o scores) scores done in
+      let s = lay-passes scores counts rows cols tiles w o (d .0) in
       subst (λ (x : List Float). allAre noNan x ≡ true) (sym (d .1))
-      (scored-numbers (fraction counts tiles) (λ k. fraction-upward counts tiles k (s .planes .number)) rows cols (layFalls rows cols w o) scores (s .sides) (s .planes .scores-long) (s .planes .finite))
+      (scored-numbers (fraction counts tiles) (λ k. fraction-upward counts tiles k (s .planes .number)) rows cols (layFalls rows cols w o)
+      scores (s .sides) (s .planes .scores-long) (s .planes .finite))
 
-  pub lift-score-numbers : (rs cs : Span) → Writes (liftScoreChecks scores counts rows cols tiles rs cs) (liftScores rows cols counts tiles rs cs scores) scores Done l
-      → allAre noNan l ≡ true
+  pub lift-score-numbers : (rs cs : Span) → ScoresLift rows cols counts tiles rs cs scores Done l → allAre noNan l ≡ true
   unfolding liftScores
   lift-score-numbers rs cs done =
-      let d = answered-done (liftScoreChecks scores counts rows cols tiles rs cs) (liftScores rows cols counts tiles rs cs scores) scores done in
-      let s = lifts scores counts rows cols tiles rs cs (d .0) in
+      let d = was-written (liftScoreChecks scores counts rows cols tiles rs cs) (liftScores rows cols counts tiles rs cs scores) scores done in
+      let s = lift-passes scores counts rows cols tiles rs cs (d .0) in
       subst (λ (x : List Float). allAre noNan x ≡ true) (sym (d .1))
-      (scored-numbers (squaredFraction counts tiles) (λ k. squared-upward counts tiles k (s .planes .number)) rows cols (liftFalls rs cs) scores (s .sides) (s .planes .scores-long) (s .planes .finite))
+      (scored-numbers (squaredFraction counts tiles) (λ k. squared-upward counts tiles k (s .planes .number)) rows cols (liftFalls rs cs)
+      scores (s .sides) (s .planes .scores-long) (s .planes .finite))

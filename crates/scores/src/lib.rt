@@ -2,10 +2,10 @@
 // checks first. A refused call changes nothing.
 ghost use mathlib.Core.Path.{_≡_};
 ghost use mathlib.Core.Bool.{true};
-ghost use Rattle.base.specs.Refusal.{accepted, refusal};
+ghost use Rattle.base.specs.Refusal.{refusal};
 ghost use Rattle.rules.specs.Tests.{boardSides};
-ghost use Rattle.rules.specs.Scores.{scoreChecks, layScores, layScoreChecks, liftScores, liftScoreChecks};
-ghost use Rattle.floats.specs.Calls.{Writes};
+ghost use Rattle.rules.specs.Scores.{scoreChecks, layScoreChecks, liftScoreChecks};
+ghost use Rattle.rules.specs.Promises.{before, after, ScoresLay, ScoresLift};
 ghost use Rattle.scores.specs.Ordered.{orderedSpan};
 use rules::Offset;
 use rules::Span;
@@ -28,7 +28,7 @@ fn ordered(span: Span) -> Span
 // The refusal of the planes and the number of tiles of a score call, 0 where there is none.
 fn planes_refused(scores: &[f64], counts: &[u32], rows: usize, cols: usize, tiles: usize) -> u8
     requires { ⌜ boardSides rows cols ≡ true ⌝ }
-    ensures { λ r. ⌜ r ≡ refusal (scoreChecks (now (scores .entry)) (now (counts .entry)) rows cols tiles accepted) ⌝ }
+    ensures { λ r. ⌜ r ≡ refusal (scoreChecks (before scores) (before counts) rows cols tiles) ⌝ }
 {
     if !checks::floats_have_length(scores, rows * cols) {
         return rules::LENGTH;
@@ -57,7 +57,7 @@ fn lay_refused(
     position: World,
     offset: Offset,
 ) -> u8
-    ensures { λ r. ⌜ r ≡ refusal (layScoreChecks (now (scores .entry)) (now (counts .entry)) rows cols tiles position offset) ⌝ }
+    ensures { λ r. ⌜ r ≡ refusal (layScoreChecks (before scores) (before counts) rows cols tiles position offset) ⌝ }
 {
     if !checks::board_sides(rows, cols) {
         return rules::SHAPE;
@@ -78,7 +78,7 @@ fn lift_refused(
     rowspan: Span,
     colspan: Span,
 ) -> u8
-    ensures { λ r. ⌜ r ≡ refusal (liftScoreChecks (now (scores .entry)) (now (counts .entry)) rows cols tiles rowspan colspan) ⌝ }
+    ensures { λ r. ⌜ r ≡ refusal (liftScoreChecks (before scores) (before counts) rows cols tiles rowspan colspan) ⌝ }
 {
     if !checks::board_sides(rows, cols) {
         return rules::SHAPE;
@@ -102,9 +102,7 @@ pub fn update_feasibility(
     position: World,
     offset: Offset,
 ) -> Written
-    ensures { λ a. ⌜ Writes (layScoreChecks (now (scores .entry)) (now (counts .entry)) rows cols tiles position offset)
-        (layScores rows cols (now (counts .entry)) tiles position offset (now (scores .entry)))
-        (now (scores .entry)) a (now (scores .exit)) ⌝ }
+    ensures { λ a. ⌜ ScoresLay rows cols (before counts) tiles position offset (before scores) a (after scores) ⌝ }
 {
     let refused = lay_refused(scores, counts, rows, cols, tiles, position, offset);
     if refused != 0 {
@@ -134,9 +132,7 @@ pub fn aggregate_feasibility(
     rowspan: Span,
     colspan: Span,
 ) -> Written
-    ensures { λ a. ⌜ Writes (liftScoreChecks (now (scores .entry)) (now (counts .entry)) rows cols tiles rowspan colspan)
-        (liftScores rows cols (now (counts .entry)) tiles rowspan colspan (now (scores .entry)))
-        (now (scores .entry)) a (now (scores .exit)) ⌝ }
+    ensures { λ a. ⌜ ScoresLift rows cols (before counts) tiles rowspan colspan (before scores) a (after scores) ⌝ }
 {
     let refused = lift_refused(scores, counts, rows, cols, tiles, rowspan, colspan);
     if refused != 0 {

@@ -3,11 +3,12 @@ ghost use mathlib.Core.Path.{_≡_};
 ghost use mathlib.Core.Bool.{true};
 ghost use Prim.Native.Nat.{_+_, _*_, _≤_};
 ghost use lib.ListN.{length};
-ghost use Rattle.base.specs.Tables.{tab};
+ghost use lib.Ieee.{nan};
+ghost use Rattle.base.specs.Regions.{overRow};
 ghost use Rattle.rules.specs.Bounds.{maxBoardSide};
 ghost use Rattle.rules.specs.Tests.{tileNumber};
-ghost use Rattle.means.specs.Box.{scoreAt};
-ghost use Rattle.scoring.specs.Region.{regionScored, pastTargets, ScoresFit};
+ghost use Rattle.rules.specs.Promises.{before, after};
+ghost use Rattle.scoring.specs.Region.{scoreStep, regionScored, pastTargets, ScoresFit};
 use means::box_mean;
 use rules::Span;
 
@@ -22,7 +23,7 @@ fn score_row(
     left: usize,
 )
     requires { ⌜ (tileNumber tiles ≡ true) × (r * cols + cols ≤ length (now counts)) × (left + length (now row) ≤ cols) ⌝ }
-    ensures { λ _. ⌜ now (row .exit) ≡ tab (length (now (row .entry))) (λ j. scoreAt squared (now (counts .entry)) tiles cols r (left + j)) ⌝ }
+    ensures { λ _. ⌜ after row ≡ overRow nan (scoreStep squared (before counts) tiles cols) r left (before row) ⌝ }
 {
     let mut j = 0;
     while j < row.len() {
@@ -41,7 +42,7 @@ pub fn score_region(
     colspan: Span,
 )
     requires { ⌜ ScoresFit (now scores) (now counts) cols tiles rowspan colspan ⌝ }
-    ensures { λ _. ⌜ now (scores .exit) ≡ regionScored squared (now (counts .entry)) tiles cols rowspan colspan (now (scores .entry)) ⌝ }
+    ensures { λ _. ⌜ after scores ≡ regionScored squared (before counts) tiles cols rowspan colspan (before scores) ⌝ }
 {
     let mut r = rowspan.0;
     while r < rowspan.1 {

@@ -5,7 +5,7 @@ use mathlib.Core.Path.{_≡_}
 use mathlib.Core.Bool.{Bool}
 use mathlib.Core.List.{List}
 use lib.Dec.{eqb}
-use lib.ListN.{length, getD}
+use lib.ListN.{length, getD, set}
 use Rattle.base.specs.Counting.{pick}
 use Rattle.rules.specs.Bounds.{maxTiles, tileCells}
 use Rattle.rules.specs.Tests.{tilesIn}
@@ -43,3 +43,8 @@ pub record Chained (tiles heads nexts : List ℕ) : Type 0 where
   pub long : length nexts ≡ maxTiles
   pub head : (h : ℕ) → h < buckets → getD heads h 0 ≡ lastBelow (tilesIn tiles) (inBucket tiles h)
   pub next : (n : ℕ) → n < tilesIn tiles → getD nexts n 0 ≡ lastBelow n (inBucket tiles (bucketOf (cellsOf tiles n)))
+
+-- tile n, of this bucket, is noted: it heads its bucket, and the one that did comes after it
+pub record Notes (n bucket : ℕ) (heads nexts headsAfter nextsAfter : List ℕ) : Type 0 where
+  pub heading : headsAfter ≡ set heads bucket (n + 1)
+  pub linking : nextsAfter ≡ set nexts n (getD heads bucket 0)

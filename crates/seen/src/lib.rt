@@ -2,12 +2,13 @@
 // each bucket one more than the number of its last tile, `nexts` for each tile one more than that of the last before it in its bucket; 0:
 // none.
 ghost use mathlib.Core.Path.{_≡_};
-ghost use Prim.Native.Nat.{_+_, _<_};
-ghost use lib.ListN.{getD, set};
+ghost use Prim.Native.Nat.{_<_};
+ghost use lib.ListN.{getD};
 ghost use Rattle.rules.specs.Bounds.{maxTiles};
 ghost use Rattle.rules.specs.Tests.{tilesIn};
+ghost use Rattle.rules.specs.Promises.{before, after};
 ghost use Rattle.rules.specs.Tiles.{sameTile, hasTile};
-ghost use Rattle.seen.specs.Chains.{buckets, bucketOf, Chained};
+ghost use Rattle.seen.specs.Chains.{buckets, bucketOf, Chained, Notes};
 
 // Odd, and such that samples of two to thirty colours are spread well: about one comparison a tile (31 took up to four).
 const SPREAD: usize = 61;
@@ -27,7 +28,7 @@ fn number(n: u16) -> usize
 }
 
 pub fn bucket_of(tile: &[u8; rules::TILE_CELLS]) -> usize
-    ensures { λ r. ⌜ (r ≡ bucketOf (λ k. getD (now (tile .entry)) k 0)) × (r < buckets) ⌝ }
+    ensures { λ r. ⌜ (r ≡ bucketOf (λ k. getD (before tile) k 0)) × (r < buckets) ⌝ }
 {
     let mut bucket = 0;
     let mut k = 0;
@@ -41,7 +42,7 @@ pub fn bucket_of(tile: &[u8; rules::TILE_CELLS]) -> usize
 // Tile n of a list equals a tile. The comparison leaves at the first cell that differs.
 fn same_tile(tiles: &[u8], n: usize, tile: &[u8; rules::TILE_CELLS]) -> bool
     requires { ⌜ n < tilesIn (now tiles) ⌝ }
-    ensures { λ r. ⌜ r ≡ sameTile (now (tiles .entry)) (now (tile .entry)) n ⌝ }
+    ensures { λ r. ⌜ r ≡ sameTile (before tiles) (before tile) n ⌝ }
 {
     let at = n * rules::TILE_CELLS;
     let mut k = 0;
@@ -63,7 +64,7 @@ pub fn has_tile(
     bucket: usize,
 ) -> bool
     requires { ⌜ Chained (now tiles) (now heads) (now nexts) × (bucket ≡ bucketOf (λ k. getD (now tile) k 0)) × (bucket < buckets) ⌝ }
-    ensures { λ r. ⌜ r ≡ hasTile (now (tiles .entry)) (now (tile .entry)) ⌝ }
+    ensures { λ r. ⌜ r ≡ hasTile (before tiles) (before tile) ⌝ }
 {
     let mut last = number(heads[bucket]);
     while last != 0 {
@@ -84,7 +85,7 @@ pub fn note_tile(
     bucket: usize,
 )
     requires { ⌜ (n < maxTiles) × (bucket < buckets) ⌝ }
-    ensures { λ _. ⌜ (now (heads .exit) ≡ set (now (heads .entry)) bucket (n + 1)) × (now (nexts .exit) ≡ set (now (nexts .entry)) n (getD (now (heads .entry)) bucket 0)) ⌝ }
+    ensures { λ _. ⌜ Notes n bucket (before heads) (before nexts) (after heads) (after nexts) ⌝ }
 {
     nexts[n] = heads[bucket];
     heads[bucket] = (n + 1) as u16;

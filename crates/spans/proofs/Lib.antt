@@ -1,1 +1,2 @@
+pub mod Radius
 pub mod Coincide

@@ -1,5 +1,6 @@
 // The probabilities of one place, taken from the plane that holds them all, the checks made.
 ghost use mathlib.Core.Path.{_≡_};
+ghost use Rattle.rules.specs.Promises.{before, after};
 ghost use Rattle.rules.specs.Probabilities.{probabilitiesAt};
 ghost use Rattle.taking.specs.Fits.{PlaceFits};
 use rules::Offset;
@@ -16,7 +17,7 @@ pub fn take_place(
     out: &mut [f64],
 )
     requires { ⌜ PlaceFits (now plane) (now out) rows cols count ⌝ }
-    ensures { λ _. ⌜ now (out .exit) ≡ probabilitiesAt (now (plane .entry)) rows cols count position offset ⌝ }
+    ensures { λ _. ⌜ after out ≡ probabilitiesAt (before plane) rows cols count position offset ⌝ }
 {
     if !places::on_board(rows, cols, position, offset) {
         normal::fill(out, 0.0);

@@ -4,19 +4,21 @@ use mathlib.Core.Path.{_≡_, refl, sym, _∙_, ap}
 use mathlib.Core.Bool.{Bool, true}
 use mathlib.Core.List.{List}
 use Rattle.base.specs.Counting.{within}
-use Rattle.base.specs.Refusal.{Checks, accepted, refusal, Gives}
+use Rattle.base.specs.Refusal.{refusal}
 use Rattle.base.proofs.Bools.{and-left, and-right}
 use Rattle.base.proofs.Numbers.{within-high}
-use Rattle.base.proofs.Chain.{_then_, numbered, passed, then-go, stopped, kept-old, has-new}
-use Rattle.base.proofs.Answered.{refuses}
+use Rattle.base.proofs.Chain.{all-pass, refusing, not-refused, stop, go, kept-old, has-new}
 use Rattle.rules.specs.Bounds.{maxSampleSide}
-use Rattle.rules.specs.Tests.{sampleSides, hasLength, tilesIn}
+use Rattle.rules.specs.Tests.{sampleSides, tilesIn}
 use Rattle.rules.specs.Answers.{tileAnswer}
-use Rattle.rules.specs.Tiles.{sampleChecks, roomCheck, extracted, extraction, storeAfter, storeWith}
+use Rattle.rules.specs.Tiles.{sampleChecks, roomCheck, extractionChecks, extracted, extraction, storeAfter}
+use Rattle.rules.specs.Promises.{Extracts}
 use Rattle.rules.specs.declared.TileNumber.{TileNumber}
 use Rattle.rules.specs.declared.TileNumber.the-variants.{Refused}
+use Rattle.rules.proofs.Answered.{tiles-refused}
 use Rattle.checks.proofs.Sides.{long}
 use Rattle.forms.specs.Sample.{Sample}
+use Rattle.tiles.specs.Adding.{Gathers}
 
 pub sides-few : (rows cols : ℕ) → sampleSides rows cols ≡ true → (rows ≤ maxSampleSide) × (cols ≤ maxSampleSide)
 unfolding sampleSides
@@ -25,43 +27,33 @@ sides-few rows cols e = (
   within-high 1 maxSampleSide cols (and-right (within 1 maxSampleSide rows) (within 1 maxSampleSide cols) e),
 )
 
-module _ (source : List ℕ) (rows cols count : ℕ) (n : ℕ) (e : n ≡ refusal (sampleChecks source rows cols count accepted)) where
+module _ (source : List ℕ) (rows cols count : ℕ) where
   -- a sample that passed its checks
-  pub sound : n ≡ 0 → Sample source rows cols
-  sound z =
-      let a = passed 0 (sampleSides rows cols) _ (sym e ∙ z) in
-      let b = passed 1 (hasLength source (rows * cols)) _ (a .1) in
-      let s = sides-few rows cols (a .0) in
-      record { low = s .0; narrow = s .1; whole = long source (rows * cols) (b .0) }
-
-  -- the checks of the sample come before the check of the room
-  before-room : (more : Checks) → (n ≡ 0 → ⊥) → n ≡ refusal (sampleChecks source rows cols count more)
-  unfolding _then_
-  before-room more h = stopped n (sampleChecks source rows cols count accepted) more e h
-
-  to-room : (more : Checks) → n ≡ 0 → refusal (sampleChecks source rows cols count more) ≡ refusal more
-  unfolding _then_ numbered
-  to-room more z = then-go (sampleChecks source rows cols count accepted) more refl (sym e ∙ z)
+  pub sound : 0 ≡ refusal (sampleChecks source rows cols count) → Sample source rows cols
+  sound e =
+      let h = all-pass (sampleChecks source rows cols count) refl (sym e) in
+      let s = sides-few rows cols (search) in
+      record { low = s .0; narrow = s .1; whole = long source (rows * cols) (search) }
 
   module _ (rotations reflections : Bool) (store : List ℕ) where
-    abbrev Extracts : TileNumber → List ℕ → Type 0
-    Extracts a x = Gives (extraction source rows cols count rotations reflections store) (storeAfter source rows cols count rotations reflections store) a x
+    abbrev tiles : List ℕ
+    tiles = extracted source rows cols rotations reflections
 
-    pub told-refused : (n ≡ 0 → ⊥) → Extracts (Refused n) store
+    -- the checks of the sample come before the check of the room
+    pub told-refused : (n : ℕ) → refusing n ≡ true → n ≡ refusal (sampleChecks source rows cols count)
+        → Extracts source rows cols count rotations reflections store (Refused n) store
     unfolding extraction storeAfter
-    told-refused h =
+    told-refused n t e =
         record {
-          answered = refuses tileAnswer Refused (λ n a. refl) n _ _ (before-room (roomCheck (extracted source rows cols rotations reflections) store) h) h;
-          leaves = sym (kept-old (refusal (sampleChecks source rows cols count accepted)) _ store (λ z. h (e ∙ z)));
+          answered = tiles-refused (extractionChecks source rows cols count rotations reflections store) (tilesIn tiles) n t (stop n _ _ t e);
+          leaves = sym (kept-old (refusal (sampleChecks source rows cols count)) _ store (λ z. not-refused n t (e ∙ z)));
         }
 
-    pub told-gathered : (a : TileNumber) (x : List ℕ) → n ≡ 0
-        → Gives (tileAnswer (refusal (roomCheck (extracted source rows cols rotations reflections) store)) (tilesIn (extracted source rows cols rotations reflections)))
-        (storeWith (extracted source rows cols rotations reflections) store) a x
-        → Extracts a x
+    pub told-gathered : (a : TileNumber) (x : List ℕ) → 0 ≡ refusal (sampleChecks source rows cols count) → Gathers tiles store a x
+        → Extracts source rows cols count rotations reflections store a x
     unfolding extraction storeAfter
-    told-gathered a x z w =
+    told-gathered a x e w =
         record {
-          answered = w .answered ∙ ap (λ (m : ℕ). tileAnswer m (tilesIn (extracted source rows cols rotations reflections))) (sym (to-room (roomCheck (extracted source rows cols rotations reflections) store) z));
-          leaves = w .leaves ∙ sym (has-new (refusal (sampleChecks source rows cols count accepted)) _ store (sym e ∙ z));
+          answered = w .answered ∙ ap (λ (m : ℕ). tileAnswer m (tilesIn tiles)) (go _ (sampleChecks source rows cols count) (roomCheck tiles store) e refl);
+          leaves = w .leaves ∙ sym (has-new (refusal (sampleChecks source rows cols count)) _ store (sym e));
         }

@@ -3,13 +3,11 @@ use Prim.Native.Nat.{ℕ}
 use mathlib.Core.Path.{_≡_}
 use mathlib.Core.Bool.{Bool}
 use mathlib.Core.List.{List}
-use Rattle.base.specs.Refusal.{Gives}
 use Rattle.base.proofs.Chain.{gives-coincide}
-use Rattle.rules.specs.Tiles.{extraction, storeAfter}
+use Rattle.rules.specs.Promises.{Extracts}
 use Rattle.rules.specs.declared.TileNumber.{TileNumber}
 
 pub extract-tiles-coincides : (source : List ℕ) (rows cols count : ℕ) (rotations reflections : Bool) (store : List ℕ) {a b : TileNumber} {x y : List ℕ}
-    → Gives (extraction source rows cols count rotations reflections store) (storeAfter source rows cols count rotations reflections store) a x
-    → Gives (extraction source rows cols count rotations reflections store) (storeAfter source rows cols count rotations reflections store) b y
+    → Extracts source rows cols count rotations reflections store a x → Extracts source rows cols count rotations reflections store b y
     → (a ≡ b) × (x ≡ y)
 extract-tiles-coincides source rows cols count rotations reflections store = gives-coincide

@@ -11,22 +11,20 @@ use mathlib.Core.Logic.{⊎-elim}
 use native.Mathlib.Nat.{le-of-suc-le-suc, eq-or-lt-of-le}
 use native.Mathlib.Numerals.{add-one}
 use native.Mathlib.Omega.{arith}
-use borrow.Author.Tests.{le-leb, lt-leb}
-use lib.Dec.{leb}
 use lib.ListN.{length, getD, set, take, drop, replicate, length-take, length-drop, length-append, take-append-drop}
 use lib.Seq.{paste, paste-suc, take-all, take-append-le, length-take-le, drop-drop, drop-append-add, take-at}
 use Rattle.base.specs.Counting.{pick}
-use Rattle.base.specs.Refusal.{accepted, refusal, Gives}
+use Rattle.base.specs.Refusal.{refusal}
 use Rattle.base.proofs.Bools.{pick-yes, pick-no}
-use Rattle.base.proofs.Chain.{refuse-by, pass-by, no-check}
+use Rattle.base.proofs.Chain.{chain}
+use Rattle.rules.proofs.Answered.{answers}
 use Rattle.rules.specs.Bounds.{maxTiles, ROOM}
 use Rattle.rules.specs.Tests.{tilesIn}
 use Rattle.rules.specs.Answers.{tileAnswer}
 use Rattle.rules.specs.Tiles.{hasTile, withTile, distinct, storeWith, roomCheck}
-use Rattle.seen.specs.Chains.{buckets, bucketOf, Chained}
+use Rattle.seen.specs.Chains.{buckets, bucketOf, Chained, Notes}
 use Rattle.seen.proofs.Buckets.{chained-none, chained-more}
-use Rattle.tiles.specs.Adding.{Adds}
-use Rattle.rules.specs.declared.TileNumber.{TileNumber}
+use Rattle.tiles.specs.Adding.{Adds, Gathers}
 use Rattle.rules.specs.declared.TileNumber.the-variants.{Tiles, Refused}
 
 -- ---- the store
@@ -79,7 +77,7 @@ module _ (d t heads nexts : List ℕ) (n : ℕ) (fine : n ≤ tilesIn d) (few : 
         out p q = omega arith
 
     pub put : (b : ℕ) (x heads′ nexts′ : List ℕ) → 9 ≤ length d - n * 9 → (b ≡ bucketOf (λ k. getD t k 0)) × (b < buckets) → x ≡ paste d (n * 9) t 9
-        → (heads′ ≡ set heads b (n + 1)) × (nexts′ ≡ set nexts n (getD heads b 0)) → Adds d n t (n + 1) x heads′ nexts′
+        → Notes n b heads nexts heads′ nexts′ → Adds d n t (n + 1) x heads′ nexts′
     put b x heads′ nexts′ h k p w =
         record {
           counted = rw grown (omega (arith, more));
@@ -89,7 +87,7 @@ module _ (d t heads nexts : List ℕ) (n : ℕ) (fine : n ≤ tilesIn d) (few : 
               ∙ sym (store-all (take (n * 9) d ++ t) d (omega (arith, more))
               ∙ ap (λ (j : ℕ). (take (n * 9) d ++ t) ++ drop j d) more
               ∙ ap (λ (y : List ℕ). (take (n * 9) d ++ y) ++ drop (n * 9 + 9) d) (sym (take-all 9 t (omega arith)))));
-          chained = λ l. rw (grown, w .0, w .1) (chained-more (take (n * 9) d) t heads nexts n b c own nine few (k .1) (k .0));
+          chained = λ l. rw (grown, w .heading, w .linking) (chained-more (take (n * 9) d) t heads nexts n b c own nine few (k .1) (k .0));
         }
 
 -- ---- the distinct tiles of a run of tiles
@@ -224,24 +222,22 @@ module _ (f : ℕ → List ℕ) (d : List ℕ) (v n : ℕ) (x heads nexts : List
 
 -- ---- the two ends
 room-answer : (l d : List ℕ) → tilesIn d < tilesIn l → Refused ROOM ≡ tileAnswer (refusal (roomCheck l d)) (tilesIn l)
-room-answer l d h = rw (sym (refuse-by {n = ROOM} (leb (tilesIn l) (tilesIn d)) accepted (lt-leb (tilesIn l) (tilesIn d) h)))
+room-answer l d h = search (chain, answers)
 
 tiles-answer : (l d : List ℕ) (n : ℕ) → length l ≡ n * 9 → n ≤ tilesIn d → Tiles n ≡ tileAnswer (refusal (roomCheck l d)) (tilesIn l)
 tiles-answer l d n e h =
-    let c : tilesIn l ≡ n = omega arith in
-    rw (sym (pass-by {m = 0} ROOM (leb (tilesIn l) (tilesIn d)) accepted (le-leb (tilesIn l) (tilesIn d) (omega arith)) no-check), c)
-
-abbrev pub Gathered : (ℕ → List ℕ) → ℕ → List ℕ → TileNumber → List ℕ → Type 0
-Gathered f m d a x = Gives (tileAnswer (refusal (roomCheck (distinct m f) d)) (tilesIn (distinct m f))) (storeWith (distinct m f) d) a x
+    let few : tilesIn l ≤ tilesIn d = omega arith in
+    let count : n ≡ tilesIn l = omega arith in
+    search (chain, answers)
 
 module _ (f : ℕ → List ℕ) (d : List ℕ) (v n : ℕ) (x heads nexts : List ℕ) (k : Kept f d v n x heads nexts) (total m : ℕ) (all : total ≡ m) where
   pub full-end : (t : List ℕ) (r : ℕ) (y heads′ nexts′ : List ℕ) → t ≡ f v → length t ≡ 9 → Adds x n t r y heads′ nexts′ → v < total → tilesIn d < r
-      → Gathered f m d (Refused ROOM) y
+      → Gathers (distinct m f) d (Refused ROOM) y
   full-end t r y heads′ nexts′ here nine told h g =
       let w = kept-full f d v n x heads nexts k t r y heads′ nexts′ here nine told m (omega arith) g in
       record { answered = room-answer (distinct m f) d (w .0); leaves = w .1 }
 
-  pub done-end : v ≤ total → total ≤ v → Gathered f m d (Tiles n) x
+  pub done-end : v ≤ total → total ≤ v → Gathers (distinct m f) d (Tiles n) x
   done-end h g =
       let e : v ≡ m = omega arith in
       let w : Kept f d m n x heads nexts = rw e at k in

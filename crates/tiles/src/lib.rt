@@ -3,19 +3,19 @@ ghost use mathlib.Core.Path.{_≡_};
 ghost use Prim.Native.Nat.{_+_, _*_, _<_, _≤_};
 ghost use lib.ListN.{length, take};
 ghost use lib.Seq.{paste};
-ghost use Rattle.base.specs.Refusal.{refusal, accepted, Gives};
+ghost use Rattle.base.specs.Refusal.{refusal};
 ghost use Rattle.rules.specs.Bounds.{maxTiles};
-ghost use Rattle.rules.specs.Answers.{tileAnswer};
+ghost use Rattle.rules.specs.Promises.{before, after, Extracts};
 ghost use Rattle.rules.specs.Tests.{tilesIn};
-ghost use Rattle.rules.specs.Tiles.{storeWith, extracted, sampleChecks, roomCheck, extraction, storeAfter};
+ghost use Rattle.rules.specs.Tiles.{extracted, sampleChecks};
 ghost use Rattle.forms.specs.Sample.{Sample};
 ghost use Rattle.seen.specs.Chains.{Chained};
-ghost use Rattle.tiles.specs.Adding.{Adds};
+ghost use Rattle.tiles.specs.Adding.{Adds, Gathers};
 use rules::TileNumber;
 
 fn put_tile(store: &mut [u8], at: usize, tile: &[u8; rules::TILE_CELLS])
     requires { ⌜ (at + 9 ≤ length (now store)) × (length (now tile) ≡ 9) ⌝ }
-    ensures { λ _. ⌜ now (store .exit) ≡ paste (now (store .entry)) at (now (tile .entry)) 9 ⌝ }
+    ensures { λ _. ⌜ after store ≡ paste (before store) at (before tile) 9 ⌝ }
 {
     let mut k = 0;
     while k < rules::TILE_CELLS {
@@ -34,7 +34,7 @@ fn add_tile(
     tile: &[u8; rules::TILE_CELLS],
 ) -> usize
     requires { ⌜ (n ≤ tilesIn (now store)) × (n < maxTiles) × (length (now tile) ≡ 9) × Chained (take (n * 9) (now store)) (now heads) (now nexts) ⌝ }
-    ensures { λ r. ⌜ Adds (now (store .entry)) n (now (tile .entry)) r (now (store .exit)) (now (heads .exit)) (now (nexts .exit)) ⌝ }
+    ensures { λ r. ⌜ Adds (before store) n (before tile) r (after store) (after heads) (after nexts) ⌝ }
 {
     let at = n * rules::TILE_CELLS;
     let bucket = seen::bucket_of(tile);
@@ -60,7 +60,7 @@ fn gather(
     reflections: bool,
 ) -> TileNumber
     requires { ⌜ Sample (now source) rows cols ⌝ }
-    ensures { λ a. ⌜ Gives (tileAnswer (refusal (roomCheck (extracted (now (source .entry)) rows cols rotations reflections) (now (store .entry)))) (tilesIn (extracted (now (source .entry)) rows cols rotations reflections))) (storeWith (extracted (now (source .entry)) rows cols rotations reflections) (now (store .entry))) a (now (store .exit)) ⌝ }
+    ensures { λ a. ⌜ Gathers (extracted (before source) rows cols rotations reflections) (before store) a (after store) ⌝ }
 {
     let total = forms::variants_of(rows, cols, rotations, reflections);
     let room = store.len() / rules::TILE_CELLS;
@@ -81,7 +81,7 @@ fn gather(
 }
 
 fn sample_refusal(source: &[u8], rows: usize, cols: usize, count: u32) -> u8
-    ensures { λ r. ⌜ r ≡ refusal (sampleChecks (now (source .entry)) rows cols count accepted) ⌝ }
+    ensures { λ r. ⌜ r ≡ refusal (sampleChecks (before source) rows cols count) ⌝ }
 {
     if !checks::sample_sides(rows, cols) {
         return rules::SHAPE;
@@ -109,7 +109,7 @@ pub fn extract_tiles(
     reflections: bool,
     store: &mut [u8],
 ) -> TileNumber
-    ensures { λ a. ⌜ Gives (extraction (now (source .entry)) rows cols count rotations reflections (now (store .entry))) (storeAfter (now (source .entry)) rows cols count rotations reflections (now (store .entry))) a (now (store .exit)) ⌝ }
+    ensures { λ a. ⌜ Extracts (before source) rows cols count rotations reflections (before store) a (after store) ⌝ }
 {
     let refused = sample_refusal(source, rows, cols, count);
     if refused != 0 {

@@ -1,10 +1,8 @@
 -- `bitset::count` meets its contract: a refusal, or the number of bits set. Assumes nothing.
-use mathlib.Core.Path.{refl, sym, _∙_}
-use Rattle.base.proofs.Answered.{refuses, told}
-use Rattle.rules.specs.Answers.{numberAnswer}
+use Rattle.base.proofs.Chain.{chain}
 use Rattle.rules.specs.Sets.{membersCounted}
-use Rattle.rules.specs.declared.Number.the-variants.{Refused}
-use Rattle.bitset.proofs.Calls.{sound}
+use Rattle.rules.proofs.Answered.{answers}
+use Rattle.bitset.proofs.Calls.{marked}
 use borrow.Author.Needs.{needs}
 use Rattle.bitset.proofs.count.Statement.{statement}
 use Rattle.bitset.proofs.count.Tie as tie
@@ -14,7 +12,7 @@ set-refusal-requires c κs = search needs
 
 returns : tie.Need-returns
 unfolding membersCounted
-returns c = refuses numberAnswer Refused (λ n a. refl) _ _ _ (c .before .set-refusal .ensures) (c .if1 .taken)
+returns c = search (chain, answers) depth 20 fits 5000
 
 colours-in-requires : tie.Need-colours-in-requires
 colours-in-requires c κs = search needs
@@ -24,8 +22,7 @@ cast-t5 c = search needs
 
 returns-2 : tie.Need-returns-2
 unfolding membersCounted
-returns-2 c = let s = c .before .before .before .args .set in let e = c .before .before .set-refusal .ensures in let z = c .before .if1 .left in
-    told numberAnswer _ (sym z ∙ e) (c .colours-in .ensures (s .size) (sound s _ e z .marked))
+returns-2 c = search (chain, answers, marked, c .colours-in .ensures) depth 20 fits 5000
 
 pub count-spec : {M : Type 1} → statement M
 count-spec =

@@ -1,8 +1,9 @@
 -- `bitset::intersection` meets its contract: a refusal, or the common bits. Assumes nothing.
-use mathlib.Core.Path.{ap}
+use Rattle.base.proofs.Chain.{chain}
 use Rattle.rules.specs.Sets.{intersected}
-use Rattle.sets.proofs.Calls.{set-refused, set-told, sized}
-use Rattle.bitset.proofs.Calls.{both-sound}
+use Rattle.rules.proofs.Answered.{answers}
+use Rattle.sets.proofs.Calls.{of-bits}
+use Rattle.bitset.proofs.Calls.{first-marked}
 use borrow.Author.Needs.{needs}
 use Rattle.bitset.proofs.intersection.Statement.{statement}
 use Rattle.bitset.proofs.intersection.Tie as tie
@@ -12,15 +13,17 @@ sets-refusal-requires c κs = search needs
 
 returns : tie.Need-returns
 unfolding intersected
-returns c = set-refused _ _ _ (c .before .sets-refusal .ensures) (c .if1 .taken)
+returns c = search (chain, answers) depth 20 fits 5000
 
 common-colours-requires : tie.Need-common-colours-requires
 common-colours-requires c κs = search needs
 
 returns-2 : tie.Need-returns-2
 unfolding intersected
-returns-2 c = let a = c .before .before .before .args in let e = c .before .before .sets-refusal .ensures in let z = c .before .if1 .left in
-    set-told _ _ _ _ e z (ap (sized (a .set .size)) (c .common-colours .ensures (a .set .size) (both-sound (a .set) (a .other) _ e z .marked)))
+returns-2 c =
+    let a = c .before .before .before .args in
+    let held = first-marked (a .set) (a .other) (search chain) in
+    search (chain, answers, of-bits, c .common-colours .ensures) depth 20 fits 5000
 
 pub intersection-spec : {M : Type 1} → statement M
 intersection-spec =

@@ -1,6 +1,8 @@
 -- `bitset::is_empty` meets its contract: a refusal, or whether no bit is set. Assumes nothing.
+use Rattle.base.proofs.Chain.{chain}
 use Rattle.rules.specs.Sets.{emptiness}
-use Rattle.bitset.proofs.Calls.{verdict-refused, verdict-told, sound}
+use Rattle.rules.proofs.Answered.{answers}
+use Rattle.bitset.proofs.Calls.{marked}
 use borrow.Author.Needs.{needs}
 use Rattle.bitset.proofs.is_empty.Statement.{statement}
 use Rattle.bitset.proofs.is_empty.Tie as tie
@@ -10,15 +12,14 @@ set-refusal-requires c κs = search needs
 
 returns : tie.Need-returns
 unfolding emptiness
-returns c = verdict-refused _ _ _ (c .before .set-refusal .ensures) (c .if1 .taken)
+returns c = search (chain, answers) depth 20 fits 5000
 
 no-colour-requires : tie.Need-no-colour-requires
 no-colour-requires c κs = search needs
 
 returns-2 : tie.Need-returns-2
 unfolding emptiness
-returns-2 c = let s = c .before .before .before .args .set in let e = c .before .before .set-refusal .ensures in let z = c .before .if1 .left in
-    verdict-told _ _ _ _ e z (c .no-colour .ensures (s .size) (sound s _ e z .marked))
+returns-2 c = search (chain, answers, marked, c .no-colour .ensures) depth 20 fits 5000
 
 pub is-empty-spec : {M : Type 1} → statement M
 is-empty-spec = tie.close (tie.spec set-refusal-requires returns no-colour-requires returns-2)

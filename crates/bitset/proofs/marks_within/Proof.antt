@@ -13,7 +13,9 @@ shl-result c = omega (arith, count-most (c .before .args .set .size) (c .before 
 
 returns : tie.Need-returns
 unfolding marksWithin
-returns c = ap (ltb (c .before .before .args .set .bits)) (shl-one 32 (c .before .before .args .set .size) (omega (arith, count-most (c .before .before .args .set .size) (c .before .before .pre))))
+returns c =
+    let s = c .before .before .args .set in
+    ap (ltb (s .bits)) (shl-one 32 (s .size) (omega (arith, count-most (s .size) (c .before .before .pre))))
 
 pub marks-within-spec : {M : Type 1} → statement M
 marks-within-spec = tie.close (tie.spec shl-result returns)

@@ -2,10 +2,12 @@
 -- Assumes nothing.
 use borrow.Author.Needs.{needs}
 use mathlib.Core.Path.{sym, _∙_, ap, subst}
+use Rattle.base.proofs.Chain.{chain}
+use Rattle.rules.proofs.Answered.{answers}
 use Rattle.rules.specs.Places.{extensionOf, extensionBy}
 use Rattle.extension.specs.Given.{Reached, PadsIn}
 use Rattle.extension.proofs.Edges.{pads-low}
-use Rattle.extension.proofs.Answers.{extension-refused, extension-given, reached}
+use Rattle.extension.proofs.Reach.{reached}
 use Rattle.extension.proofs.calculate_extension.Statement.{statement}
 use Rattle.extension.proofs.calculate_extension.Tie as tie
 
@@ -14,7 +16,7 @@ extension-refused-requires c κs = search needs
 
 returns : tie.Need-returns
 unfolding extensionOf
-returns c = extension-refused (c .before .extension-refused .result) _ (c .before .extension-refused .ensures) (c .if1 .taken)
+returns c = search (chain, answers) depth 20 fits 5000
 
 accepted : (c : tie.Else1)
     → let a = c .before .before .args in
@@ -31,10 +33,9 @@ extension-by-requires c κs =
 returns-2 : tie.Need-returns-2
 unfolding extensionOf
 returns-2 c =
-    let d = c .before .before in
-    let a = d .before .before .args in
-    extension-given (sym (d .before .extension-refused .ensures) ∙ d .if1 .left)
-    (c .extension-by .ensures ∙ ap (extensionBy (a .offset)) (c .before .pads-of .ensures))
+    let a = c .before .before .before .before .args in
+    let given = c .extension-by .ensures ∙ ap (extensionBy (a .offset)) (c .before .pads-of .ensures) in
+    search (chain, answers) depth 20 fits 5000
 
 pub calculate-extension-spec : {M : Type 1} → statement M
 calculate-extension-spec =

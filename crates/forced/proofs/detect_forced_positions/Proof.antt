@@ -12,13 +12,13 @@ no-positions-requires : tie.Need-no-positions-requires
 no-positions-requires c κs = search needs
 
 returns : tie.Need-returns
-returns c = refused-is _ _ _ _ _ _ _ _ _ _ (c .before .before .forced-refused .ensures) (c .before .if1 .taken) (c .no-positions .ensures)
+returns c = refused-is _ _ _ _ _ _ _ _ _ _ _ (c .before .before .forced-refused .ensures) (c .before .if1 .taken) (c .no-positions .ensures)
 
 forced-round-requires : tie.Need-forced-round-requires
 forced-round-requires c κs = roundable _ _ _ _ _ _ _ _ (sym (c .before .forced-refused .ensures) ∙ c .if1 .left)
 
 returns-2 : tie.Need-returns-2
-returns-2 c = found-is _ _ _ _ _ _ _ _ _ _ (c .before .before .forced-refused .ensures) (c .before .if1 .left) (c .forced-round .ensures)
+returns-2 c = found-is _ _ _ _ _ _ _ _ _ _ _ (c .before .before .forced-refused .ensures) (c .before .if1 .left) (c .forced-round .ensures)
 
 pub detect-forced-positions-spec : {M : Type 1} → statement M
 detect-forced-positions-spec =

@@ -1,7 +1,6 @@
 -- `forced::forced_colour` meets its contract: what each test leaves of the definition. Assumes nothing.
-use mathlib.Core.Path.{_∙_, ap}
+use mathlib.Core.Path.{_∙_}
 use Rattle.base.proofs.Bools.{fails, passes}
-use Rattle.rules.specs.declared.Cell.{Cell}
 use Rattle.places.proofs.Indices.{row-below, col-below}
 use Rattle.forced.proofs.Alone.{not-admitted, off-board, on-board}
 use borrow.Author.Needs.{needs}
@@ -12,13 +11,13 @@ admitted-requires : tie.Need-admitted-requires
 admitted-requires c κs = search needs
 
 returns : tie.Need-returns
-returns c = not-admitted _ _ _ _ _ _ _ _ (fails _ (c .before .admitted .ensures) (c .if1 .taken))
+returns c = not-admitted _ _ _ _ _ _ _ _ _ (fails _ (c .before .admitted .ensures) (c .if1 .taken))
 
 on-board-requires : tie.Need-on-board-requires
 on-board-requires c κs = search needs
 
 returns-2 : tie.Need-returns-2
-returns-2 c = off-board _ _ _ _ _ _ _ _ (fails _ (c .before .on-board .ensures) (c .if2 .taken))
+returns-2 c = off-board _ _ _ _ _ _ _ _ _ (fails _ (c .before .on-board .ensures) (c .if2 .taken))
 
 cell-of-requires : tie.Need-cell-of-requires
 cell-of-requires c κs = search needs
@@ -31,10 +30,11 @@ only-colour-at-requires c κs =
 
 returns-3 : tie.Need-returns-3
 returns-3 c =
-    let e = c .before .cell-of .ensures in
-    c .only-colour-at .ensures
-    ∙ on-board _ _ _ _ _ _ _ _ _ _ (passes _ (c .before .before .before .before .before .admitted .ensures) (c .before .before .before .before .if1 .left))
-    (passes _ (c .before .before .before .on-board .ensures) (c .before .before .if2 .left)) (ap (λ (x : Cell). x .0) e) (ap (λ (x : Cell). x .1) e)
+    let d = c .before .before in
+    let e = d .before .before in
+    let p = passes _ (e .before .admitted .ensures) (e .if1 .left) in
+    let q = passes _ (d .before .on-board .ensures) (d .if2 .left) in
+    c .only-colour-at .ensures ∙ on-board _ _ _ _ _ _ _ _ _ _ p q (c .before .cell-of .ensures)
 
 pub forced-colour-spec : {M : Type 1} → statement M
 forced-colour-spec =

@@ -35,8 +35,9 @@ returns : tie.Need-returns
 unfolding neighbour
 returns c =
     let w = c .before .before .before .before .args .w in
+    let d = c .before .before in
     both
-    (same {z = c .before .before .beside .result} (c .before .before .beside .ok) ∙ rw (same {z = w .0} (c .before .before .before .struct-told .given .0 .1)) at (c .before .before .beside .ensures))
+    (same {z = d .beside .result} (d .beside .ok) ∙ rw (same {z = w .0} (d .before .struct-told .given .0 .1)) at (d .beside .ensures))
     (same {z = c .beside2 .result} (c .beside2 .ok) ∙ rw (same {z = w .1} (c .before .struct-told2 .given .1 .0 .1)) at (c .beside2 .ensures))
 
 pub neighbour-at-spec : {M : Type 1} → statement M

@@ -4,34 +4,27 @@ use native.Mathlib.Omega.{arith}
 use borrow.Author.Tests.{lt-ltb, le-ltb}
 use Rattle.base.proofs.Bools.{pick-yes, pick-no}
 use Rattle.rules.specs.Forced.{only}
-use Rattle.forced.proofs.Listed.{cell-inside, never-refused, listing-says}
+use Rattle.pattern.proofs.Windows.{Inside, inside}
+use Rattle.forced.proofs.Listed.{never-refused, listing-says}
 use borrow.Author.Needs.{needs}
 use Rattle.forced.proofs.only_colour_at.Statement.{statement}
 use Rattle.forced.proofs.only_colour_at.Tie as tie
 
+-- the cell is on the grid
+there : (c : tie.Start) → Inside (c .args .pieces .now) (c .args .cols) (c .args .cell)
+there c = inside (c .pre .0 .tried .board) (c .pre .1)
+
 mul-at : tie.Need-mul-at
-mul-at c =
-    let d = c .before .before .before in
-    let k = cell-inside _ _ _ _ _ _ _ (d .pre .0) (d .pre .1) in
-    record { fits = omega arith }
+mul-at c = let k = there (c .before .before .before) in record { fits = omega arith }
 
 add-at : tie.Need-add-at
-add-at c =
-    let d = c .before .before .before .before in
-    let k = cell-inside _ _ _ _ _ _ _ (d .pre .0) (d .pre .1) in
-    record { fits = omega arith }
+add-at c = let k = there (c .before .before .before .before) in record { fits = omega arith }
 
 mul-if1 : tie.Need-mul-if1
-mul-if1 c =
-    let d = c .before .before .before .before in
-    let k = cell-inside _ _ _ _ _ _ _ (d .pre .0) (d .pre .1) in
-    record { fits = omega arith }
+mul-if1 c = let k = there (c .before .before .before .before) in record { fits = omega arith }
 
 shared-slice-read-if1 : tie.Need-shared-slice-read-if1
-shared-slice-read-if1 c =
-    let d = c .before .before .before .before .before in
-    let k = cell-inside _ _ _ _ _ _ _ (d .pre .0) (d .pre .1) in
-    omega (arith, d .pre .0 .tried .board .plane)
+shared-slice-read-if1 c = there (c .before .before .before .before .before) .below
 
 returns : tie.Need-returns
 returns c = sym (pick-yes _ _ _ (lt-ltb 1 _ (c .if1 .taken)))
@@ -53,7 +46,9 @@ only-colour-requires c κs = search needs
 
 returns-3 : tie.Need-returns-3
 returns-3 c =
-    listing-says only _ _ _ _ (c .before .before .set .given .1) (c .before .before .before .before .viable-tiles-at .ensures) (c .only-colour .ensures) ∙ sym (pick-no _ _ _ (le-ltb 1 _ (c .before .before .before .before .before .if1 .left)))
+    let d = c .before .before in
+    listing-says only _ _ _ _ (d .set .given .1) (d .before .before .viable-tiles-at .ensures) (c .only-colour .ensures)
+    ∙ sym (pick-no _ _ _ (le-ltb 1 _ (d .before .before .before .if1 .left)))
 
 pub only-colour-at-spec : {M : Type 1} → statement M
 only-colour-at-spec =

@@ -21,7 +21,9 @@ reflect-requires : tie.Need-reflect-requires
 reflect-requires c κs = search needs
 
 returns-2 : tie.Need-returns-2
-returns-2 c = form-reflected _ _ _ _ _ (c .before .before .before .turns-of .ensures) _ (c .before .before .if1 .left) (c .before .rotate-times2 .ensures) (c .reflect .ensures)
+returns-2 c =
+    let i = c .before .before in
+    form-reflected _ _ _ _ _ (i .before .turns-of .ensures) _ (i .if1 .left) (c .before .rotate-times2 .ensures) (c .reflect .ensures)
 
 pub form-of-spec : {M : Type 1} → statement M
 form-of-spec =

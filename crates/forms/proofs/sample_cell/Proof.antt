@@ -1,6 +1,8 @@
 -- `forms::sample_cell` meets its contract: past the last row, past the last column, or the cell of the plane. Assumes nothing.
+use Prim.Native.Nat.{_<_}
 use native.Mathlib.Omega.{arith}
 use Rattle.base.proofs.Numbers.{cell-lt, mul-le}
+use Rattle.rules.specs.Grid.{cellAt, numberOf}
 use Rattle.forms.proofs.Variants.{cell-below, cell-right, cell-there}
 use Rattle.forms.proofs.sample_cell.Statement.{statement}
 use Rattle.forms.proofs.sample_cell.Tie as tie
@@ -11,11 +13,16 @@ returns c = cell-below _ _ _ _ _ (c .if1 .taken)
 returns-2 : tie.Need-returns-2
 returns-2 c = cell-right _ _ _ _ _ (c .if2 .taken)
 
+-- the cell's number is that of one of at most 32 rows of 32
+in-sample : (c : tie.Else2) → let a = c .before .before .args in numberOf (a .cols) (cellAt (a .r) (a .c)) < 1024
+in-sample c =
+    let s = c .before .before in omega (arith, cell-lt (c .before .if1 .left) (c .if2 .left), mul-le (s .pre .low) (s .pre .narrow))
+
 mul-result : tie.Need-mul-result
-mul-result c = record { fits = omega (arith, cell-lt (c .before .if1 .left) (c .if2 .left), mul-le (c .before .before .pre .low) (c .before .before .pre .narrow)) }
+mul-result c = record { fits = omega (arith, in-sample c) }
 
 add-result : tie.Need-add-result
-add-result c = record { fits = omega (arith, cell-lt (c .before .if1 .left) (c .if2 .left), mul-le (c .before .before .pre .low) (c .before .before .pre .narrow)) }
+add-result c = record { fits = omega (arith, in-sample c) }
 
 shared-slice-read-result : tie.Need-shared-slice-read-result
 shared-slice-read-result c = omega (arith, cell-lt (c .before .before .if1 .left) (c .before .if2 .left), c .before .before .before .pre .whole)

@@ -14,7 +14,7 @@ starts-along-requires : tie.Need-starts-along-requires
 starts-along-requires c κs = search needs
 
 div-w : tie.Need-div-w
-div-w c = omega (arith, c .before .forms-of .ensures, forms-pos (c .before .before .before .args .rotations) (c .before .before .before .args .reflections))
+div-w c = let a = c .before .before .before .args in omega (arith, c .before .forms-of .ensures, forms-pos (a .rotations) (a .reflections))
 
 div-window-tile : tie.Need-div-window-tile
 div-window-tile c = search needs
@@ -24,19 +24,30 @@ rem-window-tile c = search needs
 
 window-tile-requires : tie.Need-window-tile-requires
 window-tile-requires c κs =
-    let a = c .before .before .before .args in
+    let s = c .before .before .before in
+    let v = s .args .v in
     let n = c .before .forms-of .result in
-    let w = div-le-self (a .v) n in
-    (c .before .before .before .pre .0, omega (arith, w, div-le-self (a .v / n) (c .starts-along .result), c .before .before .before .pre .1), omega (arith, w, mod-le (a .v / n) (c .starts-along .result), c .before .before .before .pre .1))
+    let w = div-le-self v n in (
+      s .pre .0,
+      omega (arith, w, div-le-self (v / n) (c .starts-along .result), s .pre .1),
+      omega (arith, w, mod-le (v / n) (c .starts-along .result), s .pre .1),
+    )
 
 rem-form-of : tie.Need-rem-form-of
-rem-form-of c = omega (arith, c .before .before .forms-of .ensures, forms-pos (c .before .before .before .before .args .rotations) (c .before .before .before .before .args .reflections))
+rem-form-of c =
+    let a = c .before .before .before .before .args in
+    omega (arith, c .before .before .forms-of .ensures, forms-pos (a .rotations) (a .reflections))
 
 form-of-requires : tie.Need-form-of-requires
-form-of-requires c κs = form-lt (c .before .before .before .before .args .rotations) (c .before .before .before .before .args .reflections) (c .before .before .before .before .args .v) _ (c .before .before .forms-of .ensures)
+form-of-requires c κs =
+    let a = c .before .before .before .before .args in form-lt (a .rotations) (a .reflections) (a .v) _ (c .before .before .forms-of .ensures)
 
 returns : tie.Need-returns
-returns c = variant-is _ _ _ (c .before .before .before .before .before .args .rotations) (c .before .before .before .before .before .args .reflections) _ _ _ _ _ (c .before .before .before .forms-of .ensures) (c .before .before .starts-along .ensures) (c .before .window-tile .ensures) (c .form-of .ensures)
+returns c =
+    let n = c .before .before .before in
+    let a = n .before .before .args in
+    variant-is _ _ _ (a .rotations) (a .reflections) _ _ _ _ _ (n .forms-of .ensures) (c .before .before .starts-along .ensures) (c .before .window-tile .ensures)
+    (c .form-of .ensures)
 
 pub variant-of-spec : {M : Type 1} → statement M
 variant-of-spec =

@@ -1,6 +1,7 @@
 -- `forms::variants_of` meets its contract: a product of three small numbers. Assumes nothing.
-use Prim.Native.Nat.{_≤_}
+use Prim.Native.Nat.{_*_, _≤_}
 use native.Mathlib.Omega.{arith}
+use Rattle.rules.specs.Bounds.{maxTiles}
 use Rattle.forms.proofs.Variants.{turns-le, forms-le, windows-le, variants-le, variants-is}
 use borrow.Author.Needs.{needs}
 use Rattle.forms.proofs.variants_of.Statement.{statement}
@@ -21,19 +22,31 @@ mul-result c =
 forms-of-requires : tie.Need-forms-of-requires
 forms-of-requires c κs = search needs
 
+-- the three factors
+module _ (c : tie.After-forms-of) where
+  abbrev s : tie.Start
+  s = c .before .before .before
+
+  down : c .before .before .starts-along .result ≤ 30
+  down = omega (arith, c .before .before .starts-along .ensures, s .pre .0)
+
+  across : c .before .starts-along2 .result ≤ 30
+  across = omega (arith, c .before .starts-along2 .ensures, s .pre .1)
+
+  few : c .forms-of .result ≤ 8
+  few = omega (arith, c .forms-of .ensures, forms-le (s .args .rotations) (s .args .reflections), turns-le (s .args .rotations))
+
+  small : c .before .before .starts-along .result * c .before .starts-along2 .result * c .forms-of .result ≤ maxTiles
+  small = variants-le down across few
+
 mul-result-2 : tie.Need-mul-result-2
-mul-result-2 c =
-    let a : c .before .before .starts-along .result ≤ 30 = omega (arith, c .before .before .starts-along .ensures, c .before .before .before .pre .0) in
-    let b : c .before .starts-along2 .result ≤ 30 = omega (arith, c .before .starts-along2 .ensures, c .before .before .before .pre .1) in
-    let e : c .forms-of .result ≤ 8 = omega (arith, c .forms-of .ensures, forms-le (c .before .before .before .args .rotations) (c .before .before .before .args .reflections), turns-le (c .before .before .before .args .rotations)) in
-    record { fits = omega (arith, variants-le a b e) }
+mul-result-2 c = record { fits = omega (arith, small c) }
 
 returns : tie.Need-returns
 returns c =
-    let a : c .before .before .starts-along .result ≤ 30 = omega (arith, c .before .before .starts-along .ensures, c .before .before .before .pre .0) in
-    let b : c .before .starts-along2 .result ≤ 30 = omega (arith, c .before .starts-along2 .ensures, c .before .before .before .pre .1) in
-    let e : c .forms-of .result ≤ 8 = omega (arith, c .forms-of .ensures, forms-le (c .before .before .before .args .rotations) (c .before .before .before .args .reflections), turns-le (c .before .before .before .args .rotations)) in
-    (variants-is (c .before .before .before .args .rows) (c .before .before .before .args .cols) _ _ _ (c .before .before .before .args .rotations) (c .before .before .before .args .reflections) (c .before .before .starts-along .ensures) (c .before .starts-along2 .ensures) (c .forms-of .ensures), variants-le a b e)
+    let a = c .before .before .before .args in
+    let e = c .before .before .starts-along .ensures in
+    (variants-is (a .rows) (a .cols) _ _ _ (a .rotations) (a .reflections) e (c .before .starts-along2 .ensures) (c .forms-of .ensures), small c)
 
 pub variants-of-spec : {M : Type 1} → statement M
 variants-of-spec =

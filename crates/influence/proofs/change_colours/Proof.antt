@@ -4,15 +4,15 @@ use mathlib.Core.Path.{_≡_, sym, ap, _∙_}
 use mathlib.Core.Bool.{Bool}
 use mathlib.Core.List.{List}
 use native.Mathlib.Omega.{arith}
-use native.Mathlib.Nat.{le-refl, zero-mul}
+use native.Mathlib.Nat.{le-refl, zero-mul, suc-mul}
+use native.Mathlib.Numerals.{add-one}
 use lib.ListN.{length, getD}
 use lib.Ieee.{Float, nan}
 use Rattle.base.proofs.Numbers.{mul-le, rows-apart}
 use Rattle.rules.specs.declared.Span.{Span}
-use Rattle.floats.proofs.Sweep.{Sweep, sweep-none, sweep-at, sweep-part, sweep-all, length-part}
-use Rattle.floats.proofs.Rows.{next-row}
-use Rattle.influence.specs.Step.{regionIn, blockOf, changedAt, colourChanged, coloursChanged}
-use Rattle.influence.proofs.Step.{colour-change}
+use Rattle.base.proofs.Sweep.{Sweep, sweep-none, sweep-at, sweep-part, sweep-all, length-part}
+use Rattle.influence.specs.Step.{regionIn, blockOf, changedAt, coloursChanged}
+use Rattle.influence.proofs.Step.{colour-cells, colour-change}
 use borrow.Author.Needs.{needs}
 use Rattle.influence.proofs.change_colours.Statement.{statement}
 use Rattle.influence.proofs.change_colours.Tie as tie
@@ -25,7 +25,8 @@ clash : {n : ℕ} (j : ℕ) → n ≤ j → j < n → ⊥
 clash j a b = omega arith
 
 abbrev Inv-loop : tie.InvT-loop
-Inv-loop reverse plane₀ cells cols count rowspan colspan block brows bcols entries t₀ plane t = (t ≤ count) × Sweep nan (after reverse plane₀ cells cols rowspan colspan block brows bcols) plane₀ plane (t * cells)
+Inv-loop reverse plane₀ cells cols count rowspan colspan block brows bcols entries t₀ plane t =
+    (t ≤ count) × Sweep nan (after reverse plane₀ cells cols rowspan colspan block brows bcols) plane₀ plane (t * cells)
 
 abbrev μ-loop : tie.MeasureT-loop
 μ-loop reverse plane₀ cells cols count rowspan colspan block brows bcols entries t₀ plane t = count - t
@@ -89,9 +90,11 @@ change-colour-requires : tie.Need-change-colour-requires Inv-loop μ-loop
 change-colour-requires c κs = let i = c .before .before in
     let l = i .before in
     let s = l .before .before .before in
-    let n = length-part (l .loop .plane) (l .loop .t * s .args .cells) (l .loop .t * s .args .cells + s .args .cells) (omega (arith, room i, l .loop .inv .1 .long)) in
-    let m =
-    length-part (s .args .block .now) (l .loop .t * (s .args .brows * s .args .bcols)) (l .loop .t * (s .args .brows * s .args .bcols) + s .args .brows * s .args .bcols) (block-room i) in
+    let from = l .loop .t * s .args .cells in
+    let entries = s .args .brows * s .args .bcols in
+    let start = l .loop .t * entries in
+    let n = length-part (l .loop .plane) from (from + s .args .cells) (omega (arith, room i, l .loop .inv .1 .long)) in
+    let m = length-part (s .args .block .now) start (start + entries) (block-room i) in
     let g = s .pre .region in
     record {
       region = record { wide = g .wide; down = g .down; across = g .across; ends = g .ends; room = omega (arith, n, g .room) };
@@ -107,18 +110,19 @@ loop-less : tie.Need-loop-less Inv-loop μ-loop
 loop-less c = search needs
 
 loop-again : tie.Need-loop-again Inv-loop μ-loop
-unfolding colourChanged
 loop-again c = let k = c .before .before in
     let i = k .before .before .before in
     let l = i .before in
     let s = l .before .before .before in
-    let from = l .loop .t * s .args .cells in (
+    let a = s .args in
+    let from = l .loop .t * a .cells in (
       search needs,
       sweep-at
-          (sweep-part (l .loop .inv .1) from (from + s .args .cells) (le-refl _) (omega arith) (room i) (k .change-colour .ensures)
-          (λ j a b. absurd (clash j a b))
-          (λ j h o. colour-change (s .args .reverse) (s .args .brows) (s .args .bcols) (s .args .block .now) (l .loop .t) (s .args .cells) (s .args .cols) j _ (omega arith) o))
-          (sym (next-row (l .loop .t) (s .args .cells))),
+          (sweep-part (l .loop .inv .1) from (from + a .cells) (le-refl _) (omega arith) (room i)
+          (k .change-colour .ensures ∙ colour-cells (a .reverse) (a .cols) _ _ _)
+          (λ j p q. absurd (clash j p q))
+          (λ j h o. colour-change (a .brows) (a .bcols) (a .block .now) (l .loop .t) _ (a .reverse) (a .cells) (a .cols) j (omega arith) o))
+          (rw (add-one, suc-mul)),
     )
 
 same-length : tie.Need-same-length Inv-loop μ-loop

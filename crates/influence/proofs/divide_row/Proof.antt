@@ -3,7 +3,7 @@ use Prim.Native.Nat.{ℕ, _-_, _<_, _≤_}
 use mathlib.Core.Path.{ap, _∙_}
 use lib.ListN.{length, getD}
 use lib.Ieee.{Float, nan}
-use Rattle.floats.proofs.Sweep.{Sweep, sweep-none, sweep-turn, sweep-skip, sweep-all, sweep-old}
+use Rattle.base.proofs.Sweep.{Sweep, sweep-none, sweep-turn, sweep-skip, sweep-all, sweep-old}
 use borrow.Author.Tests.{lt-ltb, le-ltb}
 use Rattle.base.proofs.Bools.{pick-no, and-no-left}
 use native.Mathlib.Omega.{arith}

@@ -3,7 +3,7 @@ use Prim.Native.Nat.{ℕ, _-_}
 use mathlib.Core.Path.{refl, _∙_}
 use lib.ListN.{length}
 use lib.Ieee.{Float, nan}
-use Rattle.floats.proofs.Sweep.{Sweep, sweep-none, sweep-turn, sweep-all}
+use Rattle.base.proofs.Sweep.{Sweep, sweep-none, sweep-turn, sweep-all}
 use Rattle.normal.proofs.Normal.{map-tab}
 use borrow.Author.Needs.{needs}
 use Rattle.normal.proofs.fill.Statement.{statement}

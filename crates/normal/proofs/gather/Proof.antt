@@ -3,7 +3,7 @@ use Prim.Native.Nat.{ℕ, _+_, _-_, _*_, _<_}
 use mathlib.Core.Path.{refl}
 use lib.ListN.{length, getD}
 use lib.Ieee.{nan}
-use Rattle.floats.proofs.Sweep.{Sweep, sweep-none, sweep-turn, sweep-all}
+use Rattle.base.proofs.Sweep.{Sweep, sweep-none, sweep-turn, sweep-all}
 use native.Mathlib.Omega.{arith}
 use borrow.Author.Needs.{scaled-fits}
 use Rattle.base.proofs.Numbers.{cell-lt}

@@ -1,15 +1,16 @@
 -- `probabilities::change_probabilities` meets its contract: refused, or every colour changed over the clipped region. Assumes nothing.
-use mathlib.Core.Path.{_≡_, refl, sym, ap, _∙_}
+use mathlib.Core.Path.{_≡_, sym, ap, _∙_}
 use Prim.Native.Nat.{_*_}
 use native.Mathlib.Omega.{arith}
 use Rattle.rules.specs.Probabilities.{Region, clippedTo}
 use Rattle.checks.proofs.Sides.{few-cells}
 use Rattle.places.proofs.Indices.{spanRound}
 use Rattle.rules.specs.Places.{cellOf}
-use Rattle.floats.proofs.Written.{refused, done}
-use Rattle.floats.proofs.Spanned.{never-refused, rows-round, cols-round}
+use Rattle.base.proofs.Chain.{chain, part-passed}
+use Rattle.rules.proofs.Answered.{answers, done}
+use Rattle.spans.proofs.Spanned.{never-refused, rows-round, cols-round}
 use Rattle.influence.specs.Step.{blockOf, coloursChanged}
-use Rattle.probabilities.proofs.Accept.{Steps, steps}
+use Rattle.probabilities.proofs.Accept.{StepPasses, step-passes}
 use Rattle.probabilities.proofs.Whole.{whole-step, region-is, region-fits}
 use borrow.Author.Needs.{needs}
 use Rattle.probabilities.proofs.change_probabilities.Statement.{statement}
@@ -22,12 +23,12 @@ same-length : tie.Need-same-length
 same-length c = search needs
 
 returns : tie.Need-returns
-returns c = refused _ _ _ (c .before .step-refused .ensures) (c .if1 .taken) refl
+returns c = search (chain, answers) depth 20 fits 5000
 
 accepts : (c : tie.Else1)
     → let a = c .before .before .before .before .before .args in
-    Steps (a .probabilities .now) (a .rows) (a .cols) (a .count) (blockOf (a .brows) (a .bcols) (a .block .now)) (a .position) (a .offset) (a .radius)
-accepts c = steps _ _ _ _ _ _ _ _ (sym (c .before .step-refused .ensures) ∙ c .if1 .left)
+    StepPasses (a .probabilities .now) (a .rows) (a .cols) (a .count) (blockOf (a .brows) (a .bcols) (a .block .now)) (a .position) (a .offset) (a .radius)
+accepts c = step-passes _ _ _ _ _ _ _ _ (sym (c .before .step-refused .ensures) ∙ c .if1 .left)
 
 get-region-spans-requires : tie.Need-get-region-spans-requires
 get-region-spans-requires c κs = search needs
@@ -45,7 +46,7 @@ returns-2 : tie.Need-returns-2
 returns-2 c = let g = c .before .before in
     let a = g .before .before .before .before .before .before .args in
     let s = accepts (g .before) in
-    absurd (never-refused (a .rows) (a .cols) (a .position) (a .offset) (a .radius) (s .place) (s .radius) (g .get-region-spans .ensures) (c .enum-told .given .1))
+    absurd (never-refused _ _ _ _ (a .radius) (s .place) (s .radius) (g .get-region-spans .ensures) (c .enum-told .given .1))
 
 clipped-requires : tie.Need-clipped-requires
 clipped-requires c κs = search needs
@@ -63,7 +64,7 @@ row-region c =
     let a = g .before .before .before .before .before .before .args in
     let s = accepts (g .before) in
     c .before .clipped .ensures
-    ∙ ap (clippedTo (a .rows)) (rows-round (a .rows) (a .cols) (a .position) (a .offset) (a .radius) (s .place) (s .radius) (g .get-region-spans .ensures) (d .down .given .1))
+    ∙ ap (clippedTo (a .rows)) (rows-round _ _ _ _ (a .radius) (s .place) (s .radius) (g .get-region-spans .ensures) (d .down .given .1))
 
 col-region : (c : tie.After-clipped2)
     → let a = c .before .before .before .before .before .before .before .before .before .before .before .args in
@@ -74,7 +75,7 @@ col-region c =
     let a = g .before .before .before .before .before .before .args in
     let s = accepts (g .before) in
     c .clipped2 .ensures
-    ∙ ap (clippedTo (a .cols)) (cols-round (a .rows) (a .cols) (a .position) (a .offset) (a .radius) (s .place) (s .radius) (g .get-region-spans .ensures) (d .down .given .1))
+    ∙ ap (clippedTo (a .cols)) (cols-round _ _ _ _ (a .radius) (s .place) (s .radius) (g .get-region-spans .ensures) (d .down .given .1))
 
 mul-change-colours : tie.Need-mul-change-colours
 mul-change-colours c = let s = accepts (c .before .before .before .before .before .before .before) in
@@ -85,7 +86,7 @@ change-colours-requires c κs = let t = c .before in
     let s = accepts (t .before .before .before .before .before .before) in
     let a = t .before .before .before .before .before .before .before .before .before .before .before .args in
     record {
-      region = region-fits (a .rows) (a .cols) (a .position) (a .offset) (a .radius) (s .place) (row-region t) (col-region t) (s .sides);
+      region = region-fits _ _ _ _ (a .radius) (s .place) (row-region t) (col-region t) (s .sides);
       long = s .long;
       block-rows = s .block-rows;
       block-cols = s .block-cols;
@@ -102,10 +103,10 @@ returns-3 c = let k = c .before .before in
     let s = accepts i in
     let a = i .before .before .before .before .before .args in
     let b = blockOf (a .brows) (a .bcols) (a .block .now) in
-    done _ _ _ (i .before .step-refused .ensures) (i .if1 .left)
+    done _ _ _ (part-passed _ (i .before .step-refused .ensures) (i .if1 .left))
     (k .change-colours .ensures
     ∙ ap (λ (g : Region). coloursChanged (a .reverse) (a .rows * a .cols) (a .cols) g b (a .probabilities .now))
-    (region-is (a .rows) (a .cols) (a .position) (a .offset) (a .radius) (s .place) (row-region t) (col-region t))
+    (region-is _ _ _ _ (a .radius) (s .place) (row-region t) (col-region t))
     ∙ whole-step (a .reverse) (a .rows) (a .cols) b (a .position) (a .offset) (a .radius) (a .probabilities .now))
 
 pub change-probabilities-spec : {M : Type 1} → statement M

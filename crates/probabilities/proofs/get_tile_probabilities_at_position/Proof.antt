@@ -1,8 +1,9 @@
 -- `probabilities::get_tile_probabilities_at_position` meets its contract: refused, or taken from the plane and normalised. Assumes nothing.
-use mathlib.Core.Path.{refl, sym, ap, _∙_}
-use Rattle.floats.proofs.Written.{refused, done}
+use mathlib.Core.Path.{sym, ap, _∙_}
+use Rattle.base.proofs.Chain.{chain, part-passed}
+use Rattle.rules.proofs.Answered.{answers, done}
 use Rattle.rules.specs.Probabilities.{normalised}
-use Rattle.probabilities.proofs.Accept.{Normalises, normalises}
+use Rattle.probabilities.proofs.Accept.{NormalPasses, normal-passes}
 use borrow.Author.Needs.{needs}
 use Rattle.probabilities.proofs.get_tile_probabilities_at_position.Statement.{statement}
 use Rattle.probabilities.proofs.get_tile_probabilities_at_position.Tie as tie
@@ -14,14 +15,14 @@ same-length : tie.Need-same-length
 same-length c = search needs
 
 returns : tie.Need-returns
-returns c = refused _ _ _ (c .before .normalise-refused .ensures) (c .if1 .taken) refl
+returns c = search (chain, answers) depth 20 fits 5000
 
 accepts : (c : tie.Else1)
     → let a = c .before .before .before .before .before .args in
-    Normalises (a .probabilities .now) (a .out .now) (a .rows) (a .cols) (a .count)
+    NormalPasses (a .probabilities .now) (a .out .now) (a .rows) (a .cols) (a .count)
 accepts c =
     let a = c .before .before .before .before .before .args in
-    normalises (a .probabilities .now) (a .out .now) (a .rows) (a .cols) (a .count) (a .position) (a .offset) (sym (c .before .normalise-refused .ensures) ∙ c .if1 .left)
+    normal-passes _ _ _ _ _ (a .position) (a .offset) (sym (c .before .normalise-refused .ensures) ∙ c .if1 .left)
 
 take-place-requires : tie.Need-take-place-requires
 take-place-requires c κs = accepts (c .before) .fits
@@ -39,7 +40,7 @@ returns-2 c =
     let n = c .before .before in
     let t = n .before .before .before .before in
     let i = t .before .before in
-    done _ _ _ (i .before .normalise-refused .ensures) (i .if1 .left) (n .normalise .ensures ∙ ap normalised (t .take-place .ensures))
+    done _ _ _ (part-passed _ (i .before .normalise-refused .ensures) (i .if1 .left)) (n .normalise .ensures ∙ ap normalised (t .take-place .ensures))
 
 pub get-tile-probabilities-at-position-spec : {M : Type 1} → statement M
 get-tile-probabilities-at-position-spec =

@@ -1,11 +1,10 @@
 -- `probability_checks::normalise_refused` meets its contract: each exit answers the first check that fails. Assumes nothing.
 use Prim.Native.Nat.{_*_, _^_, _≤_}
-use Rattle.base.proofs.Chain.{refuse, pass, no-check}
+use Rattle.base.proofs.Chain.{chain}
 use Rattle.checks.proofs.Sides.{few-cells}
 use Rattle.base.proofs.Numbers.{mul-le}
 use native.Mathlib.Omega.{arith}
 use Rattle.base.proofs.Bools.{passes}
-use Rattle.rules.specs.Bounds.{SHAPE, LENGTH, COUNT, NUMBER, PLACE}
 use borrow.Author.Needs.{needs}
 use Rattle.probability_checks.proofs.normalise_refused.Statement.{statement}
 use Rattle.probability_checks.proofs.normalise_refused.Tie as tie
@@ -14,7 +13,7 @@ board-sides-requires : tie.Need-board-sides-requires
 board-sides-requires c κs = search needs
 
 returns : tie.Need-returns
-returns c = refuse _ _ (c .before .board-sides .ensures) (c .if1 .taken)
+returns c = search chain depth 20 fits 5000
 
 -- the board has few cells
 cells : (c : tie.Else1) → c .before .before .before .before .args .rows * c .before .before .before .before .args .cols ≤ 4096
@@ -32,95 +31,40 @@ floats-have-length-requires : tie.Need-floats-have-length-requires
 floats-have-length-requires c κs = search needs
 
 returns-2 : tie.Need-returns-2
-returns-2 c = let d1 = c .before .before in
-    pass SHAPE _ _ (d1 .before .board-sides .ensures) (d1 .if1 .left)
-    (refuse _ _ (c .before .floats-have-length .ensures) (c .if2 .taken))
+returns-2 c = search chain depth 20 fits 5000
 
 floats-have-length-requires-2 : tie.Need-floats-have-length-requires-2
 floats-have-length-requires-2 c κs = search needs
 
 returns-3 : tie.Need-returns-3
-returns-3 c = let d2 = c .before .before in
-    let d1 = d2 .before .before in
-    pass SHAPE _ _ (d1 .before .board-sides .ensures) (d1 .if1 .left)
-    (pass LENGTH _ _ (d2 .before .floats-have-length .ensures) (d2 .if2 .left)
-    (refuse _ _ (c .before .floats-have-length2 .ensures) (c .if3 .taken)))
+returns-3 c = search chain depth 20 fits 5000
 
 colour-count-requires : tie.Need-colour-count-requires
 colour-count-requires c κs = search needs
 
 returns-4 : tie.Need-returns-4
-returns-4 c = let d3 = c .before .before in
-    let d2 = d3 .before .before in
-    let d1 = d2 .before .before in
-    pass SHAPE _ _ (d1 .before .board-sides .ensures) (d1 .if1 .left)
-    (pass LENGTH _ _ (d2 .before .floats-have-length .ensures) (d2 .if2 .left)
-    (pass LENGTH _ _ (d3 .before .floats-have-length2 .ensures) (d3 .if3 .left)
-    (refuse _ _ (c .before .colour-count .ensures) (c .if4 .taken))))
+returns-4 c = search chain depth 20 fits 5000
 
 all-numbers-requires : tie.Need-all-numbers-requires
 all-numbers-requires c κs = search needs
 
 returns-5 : tie.Need-returns-5
-returns-5 c = let d4 = c .before .before in
-    let d3 = d4 .before .before in
-    let d2 = d3 .before .before in
-    let d1 = d2 .before .before in
-    pass SHAPE _ _ (d1 .before .board-sides .ensures) (d1 .if1 .left)
-    (pass LENGTH _ _ (d2 .before .floats-have-length .ensures) (d2 .if2 .left)
-    (pass LENGTH _ _ (d3 .before .floats-have-length2 .ensures) (d3 .if3 .left)
-    (pass COUNT _ _ (d4 .before .colour-count .ensures) (d4 .if4 .left)
-    (refuse _ _ (c .before .all-numbers .ensures) (c .if5 .taken)))))
+returns-5 c = search chain depth 20 fits 5000
 
 on-wall-requires : tie.Need-on-wall-requires
 on-wall-requires c κs = search needs
 
 returns-6 : tie.Need-returns-6
-returns-6 c = let d5 = c .before .before in
-    let d4 = d5 .before .before in
-    let d3 = d4 .before .before in
-    let d2 = d3 .before .before in
-    let d1 = d2 .before .before in
-    pass SHAPE _ _ (d1 .before .board-sides .ensures) (d1 .if1 .left)
-    (pass LENGTH _ _ (d2 .before .floats-have-length .ensures) (d2 .if2 .left)
-    (pass LENGTH _ _ (d3 .before .floats-have-length2 .ensures) (d3 .if3 .left)
-    (pass COUNT _ _ (d4 .before .colour-count .ensures) (d4 .if4 .left)
-    (pass NUMBER _ _ (d5 .before .all-numbers .ensures) (d5 .if5 .left)
-    (refuse _ _ (c .before .on-wall .ensures) (c .if6 .taken))))))
+returns-6 c = search chain depth 20 fits 5000
 
 offset-fits-requires : tie.Need-offset-fits-requires
 offset-fits-requires c κs = search needs
 
 returns-7 : tie.Need-returns-7
-returns-7 c = let d6 = c .before .before in
-    let d5 = d6 .before .before in
-    let d4 = d5 .before .before in
-    let d3 = d4 .before .before in
-    let d2 = d3 .before .before in
-    let d1 = d2 .before .before in
-    pass SHAPE _ _ (d1 .before .board-sides .ensures) (d1 .if1 .left)
-    (pass LENGTH _ _ (d2 .before .floats-have-length .ensures) (d2 .if2 .left)
-    (pass LENGTH _ _ (d3 .before .floats-have-length2 .ensures) (d3 .if3 .left)
-    (pass COUNT _ _ (d4 .before .colour-count .ensures) (d4 .if4 .left)
-    (pass NUMBER _ _ (d5 .before .all-numbers .ensures) (d5 .if5 .left)
-    (pass PLACE _ _ (d6 .before .on-wall .ensures) (d6 .if6 .left)
-    (refuse _ _ (c .before .offset-fits .ensures) (c .if7 .taken)))))))
+returns-7 c = search chain depth 20 fits 5000
 
 returns-8 : tie.Need-returns-8
-returns-8 c = let d6 = c .before .before in
-    let d5 = d6 .before .before in
-    let d4 = d5 .before .before in
-    let d3 = d4 .before .before in
-    let d2 = d3 .before .before in
-    let d1 = d2 .before .before in
-    pass SHAPE _ _ (d1 .before .board-sides .ensures) (d1 .if1 .left)
-    (pass LENGTH _ _ (d2 .before .floats-have-length .ensures) (d2 .if2 .left)
-    (pass LENGTH _ _ (d3 .before .floats-have-length2 .ensures) (d3 .if3 .left)
-    (pass COUNT _ _ (d4 .before .colour-count .ensures) (d4 .if4 .left)
-    (pass NUMBER _ _ (d5 .before .all-numbers .ensures) (d5 .if5 .left)
-    (pass PLACE _ _ (d6 .before .on-wall .ensures) (d6 .if6 .left)
-    (pass PLACE _ _ (c .before .offset-fits .ensures) (c .if7 .left)
-    (no-check)))))))
+returns-8 c = search chain depth 20 fits 5000
 
 pub normalise-refused-spec : {M : Type 1} → statement M
 normalise-refused-spec =

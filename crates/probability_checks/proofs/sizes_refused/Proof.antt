@@ -1,14 +1,13 @@
 -- `probability_checks::sizes_refused` meets its contract: each exit answers the first check that fails. Assumes nothing.
 use Prim.Native.Nat.{_*_, _^_, _≤_}
 use mathlib.Core.Bool.{_&&_}
-use Rattle.base.proofs.Chain.{refuse, pass, refuse-by, pass-by, no-check}
+use Rattle.base.proofs.Chain.{chain}
 use Rattle.checks.proofs.Sides.{few-cells}
 use Rattle.base.proofs.Numbers.{mul-le, within-high}
 use native.Mathlib.Omega.{arith}
-use borrow.Author.Tests.{le-leb, lt-leb}
 use Rattle.base.specs.Counting.{within}
 use Rattle.base.proofs.Bools.{passes, and-left, and-right}
-use Rattle.rules.specs.Bounds.{maxRadius, maxInfluenceSide, SHAPE, LENGTH, COUNT}
+use Rattle.rules.specs.Bounds.{maxInfluenceSide}
 use borrow.Author.Needs.{needs}
 use Rattle.probability_checks.proofs.sizes_refused.Statement.{statement}
 use Rattle.probability_checks.proofs.sizes_refused.Tie as tie
@@ -17,22 +16,16 @@ board-sides-requires : tie.Need-board-sides-requires
 board-sides-requires c κs = search needs
 
 returns : tie.Need-returns
-returns c = refuse _ _ (c .before .board-sides .ensures) (c .if1 .taken)
+returns c = search chain depth 20 fits 5000
 
 influence-sides-requires : tie.Need-influence-sides-requires
 influence-sides-requires c κs = search needs
 
 returns-2 : tie.Need-returns-2
-returns-2 c = let d1 = c .before .before in
-    pass SHAPE _ _ (d1 .before .board-sides .ensures) (d1 .if1 .left)
-    (refuse _ _ (c .before .influence-sides .ensures) (c .if2 .taken))
+returns-2 c = search chain depth 20 fits 5000
 
 returns-3 : tie.Need-returns-3
-returns-3 c = let d2 = c .before in
-    let d1 = d2 .before .before in
-    pass SHAPE _ _ (d1 .before .board-sides .ensures) (d1 .if1 .left)
-    (pass SHAPE _ _ (d2 .before .influence-sides .ensures) (d2 .if2 .left)
-    (refuse-by _ _ (lt-leb _ maxRadius (c .if3 .taken))))
+returns-3 c = search chain depth 20 fits 5000
 
 -- the board has few cells, the block few entries, and there are few colours
 cells : (c : tie.Else1) → c .before .before .before .before .args .rows * c .before .before .before .before .args .cols ≤ 4096
@@ -41,8 +34,10 @@ cells c = few-cells _ _ (passes _ (c .before .board-sides .ensures) (c .if1 .lef
 entries : (c : tie.Else2) → let s = c .before .before .before .before .before .before in s .args .brows * s .args .bcols ≤ 127 * 127
 entries c =
     let s = c .before .before .before .before .before .before .args in
-    let e = passes (within 1 maxInfluenceSide (s .brows) && within 1 maxInfluenceSide (s .bcols)) (c .before .influence-sides .ensures) (c .if2 .left) in
-    mul-le (within-high 1 127 (s .brows) (and-left (within 1 127 (s .brows)) (within 1 127 (s .bcols)) e)) (within-high 1 127 (s .bcols) (and-right (within 1 127 (s .brows)) (within 1 127 (s .bcols)) e))
+    let down = within 1 maxInfluenceSide (s .brows) in
+    let across = within 1 maxInfluenceSide (s .bcols) in
+    let e = passes (down && across) (c .before .influence-sides .ensures) (c .if2 .left) in
+    mul-le (within-high 1 127 (s .brows) (and-left down across e)) (within-high 1 127 (s .bcols) (and-right down across e))
 
 colours : (c : tie.Else3) → c .before .before .before .before .before .before .before .args .count ≤ 2 ^ 32
 colours c = omega (arith, c .before .before .before .before .before .before .before .fits)
@@ -57,13 +52,7 @@ floats-have-length-requires : tie.Need-floats-have-length-requires
 floats-have-length-requires c κs = search needs
 
 returns-4 : tie.Need-returns-4
-returns-4 c = let d3 = c .before .before in
-    let d2 = d3 .before in
-    let d1 = d2 .before .before in
-    pass SHAPE _ _ (d1 .before .board-sides .ensures) (d1 .if1 .left)
-    (pass SHAPE _ _ (d2 .before .influence-sides .ensures) (d2 .if2 .left)
-    (pass-by SHAPE _ _ (le-leb _ maxRadius (d3 .if3 .left))
-    (refuse _ _ (c .before .floats-have-length .ensures) (c .if4 .taken))))
+returns-4 c = search chain depth 20 fits 5000
 
 mul-floats-have-length-3 : tie.Need-mul-floats-have-length-3
 mul-floats-have-length-3 c = record { fits = omega (arith, entries (c .before .before .before)) }
@@ -75,45 +64,16 @@ floats-have-length-requires-2 : tie.Need-floats-have-length-requires-2
 floats-have-length-requires-2 c κs = search needs
 
 returns-5 : tie.Need-returns-5
-returns-5 c = let d4 = c .before .before in
-    let d3 = d4 .before .before in
-    let d2 = d3 .before in
-    let d1 = d2 .before .before in
-    pass SHAPE _ _ (d1 .before .board-sides .ensures) (d1 .if1 .left)
-    (pass SHAPE _ _ (d2 .before .influence-sides .ensures) (d2 .if2 .left)
-    (pass-by SHAPE _ _ (le-leb _ maxRadius (d3 .if3 .left))
-    (pass LENGTH _ _ (d4 .before .floats-have-length .ensures) (d4 .if4 .left)
-    (refuse _ _ (c .before .floats-have-length2 .ensures) (c .if5 .taken)))))
+returns-5 c = search chain depth 20 fits 5000
 
 colour-count-requires : tie.Need-colour-count-requires
 colour-count-requires c κs = search needs
 
 returns-6 : tie.Need-returns-6
-returns-6 c = let d5 = c .before .before in
-    let d4 = d5 .before .before in
-    let d3 = d4 .before .before in
-    let d2 = d3 .before in
-    let d1 = d2 .before .before in
-    pass SHAPE _ _ (d1 .before .board-sides .ensures) (d1 .if1 .left)
-    (pass SHAPE _ _ (d2 .before .influence-sides .ensures) (d2 .if2 .left)
-    (pass-by SHAPE _ _ (le-leb _ maxRadius (d3 .if3 .left))
-    (pass LENGTH _ _ (d4 .before .floats-have-length .ensures) (d4 .if4 .left)
-    (pass LENGTH _ _ (d5 .before .floats-have-length2 .ensures) (d5 .if5 .left)
-    (refuse _ _ (c .before .colour-count .ensures) (c .if6 .taken))))))
+returns-6 c = search chain depth 20 fits 5000
 
 returns-7 : tie.Need-returns-7
-returns-7 c = let d5 = c .before .before in
-    let d4 = d5 .before .before in
-    let d3 = d4 .before .before in
-    let d2 = d3 .before in
-    let d1 = d2 .before .before in
-    pass SHAPE _ _ (d1 .before .board-sides .ensures) (d1 .if1 .left)
-    (pass SHAPE _ _ (d2 .before .influence-sides .ensures) (d2 .if2 .left)
-    (pass-by SHAPE _ _ (le-leb _ maxRadius (d3 .if3 .left))
-    (pass LENGTH _ _ (d4 .before .floats-have-length .ensures) (d4 .if4 .left)
-    (pass LENGTH _ _ (d5 .before .floats-have-length2 .ensures) (d5 .if5 .left)
-    (pass COUNT _ _ (c .before .colour-count .ensures) (c .if6 .left)
-    (no-check))))))
+returns-7 c = search chain depth 20 fits 5000
 
 pub sizes-refused-spec : {M : Type 1} → statement M
 sizes-refused-spec =

@@ -2,6 +2,7 @@
 -- Assumes nothing.
 use mathlib.Core.Path.{_∙_}
 use borrow.Author.Needs.{needs}
+use Rattle.base.proofs.Chain.{chain, part-passed}
 use Rattle.queue.proofs.Calls.{adding-of, grown-refused, grown}
 use Rattle.queue.proofs.add_positions.Statement.{statement}
 use Rattle.queue.proofs.add_positions.Tie as tie
@@ -10,13 +11,13 @@ of-adding-requires : tie.Need-of-adding-requires
 of-adding-requires c κs = search needs
 
 returns : tie.Need-returns
-returns c = grown-refused _ _ _ (c .before .of-adding .ensures) (c .if1 .taken)
+returns c = search (chain, grown-refused) depth 20 fits 5000
 
 add-positions-requires : tie.Need-add-positions-requires
-add-positions-requires c κs = adding-of _ _ (c .before .of-adding .ensures) (c .if1 .left)
+add-positions-requires c κs = search (chain, adding-of) depth 20 fits 5000
 
 returns-2 : tie.Need-returns-2
-returns-2 c = c .add-positions .ensures ∙ grown _ _ (c .before .before .of-adding .ensures) (c .before .if1 .left)
+returns-2 c = c .add-positions .ensures ∙ grown _ _ (part-passed _ (c .before .before .of-adding .ensures) (c .before .if1 .left))
 
 pub add-positions-spec : {M : Type 1} → statement M
 add-positions-spec =

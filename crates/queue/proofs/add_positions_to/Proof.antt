@@ -35,7 +35,6 @@ use denote.Triple.Entry.{onEntry}
 use denote.Triple.Spec.{Meets, tripleOf}
 use denote.Triple.Table.{entered, cited}
 use denote.Triple.Walked.{says, Stays, stay-ref, stay-none, walkOf, goes-ref, goes-none, ends-at, walked, walk-meets}
-use Rattle.base.specs.Refusal.{Gives}
 use Rattle.rules.specs.Forced.{grownBy}
 use Rattle.rules.specs.declared.ForcedPipeline.{ForcedPipeline}
 use Rattle.rules.specs.declared.ForcedPositions.{ForcedPositions}
@@ -49,6 +48,7 @@ use Rattle.rules.proofs.Grown as G
 use Rattle.rules.proofs.Grown.Laws as G′
 use Rattle.rules.proofs.Written as A′
 use Rattle.rules.proofs.Written.Laws as A″
+use Rattle.queue.specs.Promises.{AddsTo}
 use Rattle.queue.proofs.Walks.{alone, asked, asks}
 use Rattle.queue.proofs.add_positions as add
 use Rattle.queue.proofs.add_positions.Symbol as add-def
@@ -92,7 +92,7 @@ module _ {M : Type 1} (𝓤 : URA M) (H : Heap 𝓤) (A : Atoms 𝓤) (W : Given
   abbrev Post : Val → SProp 𝓤
   Post = walkOf 𝓤 H A own.ended stayed (own.clauses 𝓤 H A at-mem run) .post (((κ, tt), (q, tt), tt, x, at), tt)
 
-  exits : (a : Written) (v : Val) (n : ForcedPipeline) → Gives (grownBy h p .answer) (grownBy h p .queue) a n
+  exits : (a : Written) (v : Val) (n : ForcedPipeline) → AddsTo p h a n
       → ent 𝓤 (sep 𝓤 (sem 𝓤 H A (A′.the-row .own a (v ∷ []))) (sep 𝓤 (A .obs γ (Q.the-row .coded .code n)) (sep 𝓤 (A .bor κ (Body (mem (Q.the-row)) b o γ)) (A .lft κ q)))) (Post v)
   exits a v n e =
       qed W (‵ (A′.the-row .own a (v ∷ [])) ∷ ‵ (fobs γ (Q.the-row .coded .code n)) ∷ ‵ (fbor κ (Body (mem (Q.the-row)) b o γ)) ∷ ‵ (flft κ q) ∷ []) ∵

@@ -1,7 +1,9 @@
 -- `queue::is_empty` meets its contract, by the two ways that the checks can go.
 -- Assumes nothing.
 use borrow.Author.Needs.{needs}
-use Rattle.queue.proofs.Calls.{empty-refused, emptiness}
+use Rattle.base.proofs.Chain.{chain}
+use Rattle.rules.specs.Forced.{queueEmpty}
+use Rattle.rules.proofs.Answered.{answers}
 use Rattle.queue.proofs.is_empty.Statement.{statement}
 use Rattle.queue.proofs.is_empty.Tie as tie
 
@@ -9,10 +11,12 @@ of-queue-requires : tie.Need-of-queue-requires
 of-queue-requires c κs = search needs
 
 returns : tie.Need-returns
-returns c = empty-refused _ _ (c .before .of-queue .ensures) (c .if1 .taken)
+unfolding queueEmpty
+returns c = search (chain, answers) depth 20 fits 5000
 
 returns-2 : tie.Need-returns-2
-returns-2 c = emptiness _ (c .before .before .of-queue .ensures) (c .before .if1 .left)
+unfolding queueEmpty
+returns-2 c = search (chain, answers) depth 20 fits 5000
 
 pub is-empty-spec : {M : Type 1} → statement M
 is-empty-spec = tie.close (tie.spec of-queue-requires returns returns-2)

@@ -1,7 +1,9 @@
 -- `queue::len` meets its contract, by the two ways that the checks can go.
 -- Assumes nothing.
 use borrow.Author.Needs.{needs}
-use Rattle.queue.proofs.Calls.{length-refused, length-is}
+use Rattle.base.proofs.Chain.{chain}
+use Rattle.rules.specs.Forced.{queueLength}
+use Rattle.rules.proofs.Answered.{answers}
 use Rattle.queue.proofs.len.Statement.{statement}
 use Rattle.queue.proofs.len.Tie as tie
 
@@ -9,10 +11,12 @@ of-queue-requires : tie.Need-of-queue-requires
 of-queue-requires c κs = search needs
 
 returns : tie.Need-returns
-returns c = length-refused _ _ (c .before .of-queue .ensures) (c .if1 .taken)
+unfolding queueLength
+returns c = search (chain, answers) depth 20 fits 5000
 
 returns-2 : tie.Need-returns-2
-returns-2 c = length-is _ (c .before .of-queue .ensures) (c .if1 .left)
+unfolding queueLength
+returns-2 c = search (chain, answers) depth 20 fits 5000
 
 pub len-spec : {M : Type 1} → statement M
 len-spec = tie.close (tie.spec of-queue-requires returns returns-2)

@@ -35,7 +35,6 @@ use denote.Triple.Entry.{onEntry}
 use denote.Triple.Spec.{Meets, tripleOf}
 use denote.Triple.Table.{entered, cited}
 use denote.Triple.Walked.{says, Stays, stay-ref, walkOf, goes-ref, ends-at, walked, walk-meets}
-use Rattle.base.specs.Refusal.{Gives}
 use Rattle.rules.specs.Forced.{takenFrom}
 use Rattle.rules.specs.declared.ForcedPipeline.{ForcedPipeline}
 use Rattle.rules.specs.declared.Taken.{Taken}
@@ -46,6 +45,7 @@ use Rattle.rules.proofs.Taken as T
 use Rattle.rules.proofs.Taken.Laws as T′
 use Rattle.rules.proofs.Next as N
 use Rattle.rules.proofs.Next.Laws as N′
+use Rattle.queue.specs.Promises.{TakesFrom}
 use Rattle.queue.proofs.Walks.{alone, asked, asks}
 use Rattle.queue.proofs.take_next as take
 use Rattle.queue.proofs.take_next.Symbol as take-def
@@ -86,7 +86,7 @@ module _ {M : Type 1} (𝓤 : URA M) (H : Heap 𝓤) (A : Atoms 𝓤) (W : Given
   abbrev Post : Val → SProp 𝓤
   Post = walkOf 𝓤 H A own.ended stayed (own.clauses 𝓤 H A at-mem run) .post (((κ, tt), (q, tt), tt, x, at), tt)
 
-  exits : (a : Next) (v : Val) (n : ForcedPipeline) → Gives (takenFrom h .next) (takenFrom h .queue) a n
+  exits : (a : Next) (v : Val) (n : ForcedPipeline) → TakesFrom h a n
       → ent 𝓤 (sep 𝓤 (sem 𝓤 H A (N.the-row .own a (v ∷ []))) (sep 𝓤 (A .obs γ (Q.the-row .coded .code n)) (sep 𝓤 (A .bor κ (Body (mem (Q.the-row)) b o γ)) (A .lft κ q)))) (Post v)
   exits a v n e =
       qed W (‵ (N.the-row .own a (v ∷ [])) ∷ ‵ (fobs γ (Q.the-row .coded .code n)) ∷ ‵ (fbor κ (Body (mem (Q.the-row)) b o γ)) ∷ ‵ (flft κ q) ∷ []) ∵

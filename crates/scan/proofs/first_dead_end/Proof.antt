@@ -1,12 +1,12 @@
 -- `scan::first_dead_end` meets its contract: while the loops run, no cell that they passed qualifies. Assumes nothing.
-use Prim.Native.Nat.{ℕ, _+_, _-_, _*_, _<_, _≤_}
+use Prim.Native.Nat.{ℕ, _-_, _*_, _<_, _≤_}
 use mathlib.Core.Path.{_≡_, refl, sym, _∙_}
 use mathlib.Core.Bool.{Bool, false}
 use mathlib.Core.List.{List}
 use native.Mathlib.Omega.{arith}
 use Rattle.base.specs.Counting.{some}
 use Rattle.base.proofs.Numbers.{cell-lt}
-use Rattle.rules.specs.Grid.{flat}
+use Rattle.rules.specs.Grid.{cellAt, numberOf, flat}
 use Rattle.rules.specs.Forced.{deadAt}
 use Rattle.rules.specs.declared.DeadEnd.{DeadEnd}
 use Rattle.rules.specs.declared.DeadEnd.the-variants.{Nowhere}
@@ -28,7 +28,7 @@ record Inner (test : ℕ → Bool) (rows cols : ℕ) (found : DeadEnd) (row col 
   nowhere : found ≡ Nowhere
   row-in : row < rows
   col-in : col ≤ cols
-  passed : some (row * cols + col) test ≡ false
+  passed : some (numberOf cols (cellAt row col)) test ≡ false
 
 abbrev Inv-loop : tie.InvT-loop
 Inv-loop pieces weights rows cols tiles count found₀ row col₀ found col = Inner (dead pieces weights rows cols tiles count) rows cols found row col
@@ -51,7 +51,8 @@ loop-holds c =
     record { nowhere = i .nowhere; row-in = c .scan-test .taken; col-in = omega arith; passed = row-start _ _ (i .passed) }
 
 is-dead-end-requires : tie.Need-is-dead-end-requires Inv-loop μ-loop Inv-scan μ-scan
-is-dead-end-requires c κs = (c .before .before .before .before .before .before .before .pre, record { down = c .before .loop .inv .row-in; across = c .loop-test .taken })
+is-dead-end-requires c κs =
+    (c .before .before .before .before .before .before .before .pre, record { down = c .before .loop .inv .row-in; across = c .loop-test .taken })
 
 add-col : tie.Need-add-col Inv-loop μ-loop Inv-scan μ-scan
 add-col c = search needs
@@ -90,7 +91,8 @@ returns-2 : tie.Need-returns-2 Inv-loop μ-loop Inv-scan μ-scan
 unfolding scanned
 returns-2 c =
     let i = c .before .before .before .loop .inv in
-    found-at _ _ _ _ _ (c .before .before .loop-test .taken) (cell-lt (i .row-in) (c .before .before .loop-test .taken)) (i .passed) (sym (c .before .is-dead-end .ensures) ∙ c .if1 .taken)
+    let l = c .before .before .loop-test .taken in
+    found-at _ _ _ _ l (cell-lt (i .row-in) l) (i .passed) (sym (c .before .is-dead-end .ensures) ∙ c .if1 .taken)
 
 pub first-dead-end-spec : {M : Type 1} → statement M
 first-dead-end-spec =

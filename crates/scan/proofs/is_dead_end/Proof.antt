@@ -3,50 +3,40 @@
 use native.Mathlib.Omega.{arith}
 use lib.Dec.{eqb}
 use lib.ListN.{length}
-use Rattle.forced.proofs.Listed.{cell-inside, never-refused, listing-says}
+use Rattle.pattern.proofs.Windows.{Inside, inside}
+use Rattle.forced.proofs.Listed.{never-refused, listing-says}
 use Rattle.scan.proofs.Search.{dead-laid, dead-light, dead-listed}
 use borrow.Author.Needs.{needs}
 use Rattle.scan.proofs.is_dead_end.Statement.{statement}
 use Rattle.scan.proofs.is_dead_end.Tie as tie
 
+-- the cell is on the grid
+there : (c : tie.Start) → Inside (c .args .pieces .now) (c .args .cols) (c .args .cell)
+there c = inside (c .pre .0 .ready .tried .board) (c .pre .1)
+
 mul-at : tie.Need-mul-at
-mul-at c =
-    let d = c .before .before .before .before in
-    let k = cell-inside _ _ _ _ _ _ _ (d .pre .0 .ready) (d .pre .1) in
-    record { fits = omega arith }
+mul-at c = let k = there (c .before .before .before .before) in record { fits = omega arith }
 
 add-at : tie.Need-add-at
-add-at c =
-    let d = c .before .before .before .before .before in
-    let k = cell-inside _ _ _ _ _ _ _ (d .pre .0 .ready) (d .pre .1) in
-    record { fits = omega arith }
+add-at c = let k = there (c .before .before .before .before .before) in record { fits = omega arith }
 
 mul-if1 : tie.Need-mul-if1
-mul-if1 c =
-    let d = c .before .before .before .before .before in
-    let k = cell-inside _ _ _ _ _ _ _ (d .pre .0 .ready) (d .pre .1) in
-    record { fits = omega arith }
+mul-if1 c = let k = there (c .before .before .before .before .before) in record { fits = omega arith }
 
 shared-slice-read-if1 : tie.Need-shared-slice-read-if1
-shared-slice-read-if1 c =
-    let d = c .before .before .before .before .before .before in
-    let k = cell-inside _ _ _ _ _ _ _ (d .pre .0 .ready) (d .pre .1) in
-    omega (arith, d .pre .0 .ready .tried .board .plane)
+shared-slice-read-if1 c = there (c .before .before .before .before .before .before) .below
 
 returns : tie.Need-returns
 returns c = dead-laid _ _ _ _ _ _ (c .if1 .taken)
 
 mul-if2 : tie.Need-mul-if2
-mul-if2 c =
-    let d = c .before .before .before .before .before .before .before in
-    let k = cell-inside _ _ _ _ _ _ _ (d .pre .0 .ready) (d .pre .1) in
-    record { fits = omega arith }
+mul-if2 c = let k = there (c .before .before .before .before .before .before .before) in record { fits = omega arith }
 
 shared-slice-read-if2 : tie.Need-shared-slice-read-if2
 shared-slice-read-if2 c =
     let d = c .before .before .before .before .before .before .before .before in
-    let k = cell-inside _ _ _ _ _ _ _ (d .pre .0 .ready) (d .pre .1) in
-    omega (arith, d .pre .0 .weighed)
+    let k = there d in
+    omega (arith, d .pre .0 .weighed, d .pre .0 .ready .tried .board .plane)
 
 returns-2 : tie.Need-returns-2
 returns-2 c = dead-light _ _ _ _ _ _ (c .if2 .taken)
@@ -68,8 +58,10 @@ no-colour-requires c κs = search needs
 
 returns-4 : tie.Need-returns-4
 returns-4 c =
-    dead-listed _ _ _ _ _ _ (c .before .before .before .before .before .before .before .if1 .left) (c .before .before .before .before .before .if2 .left)
-    (listing-says (λ l. eqb (length l) 0) _ _ _ _ (c .before .before .set .given .1) (c .before .before .before .before .viable-tiles-at .ensures) (c .no-colour .ensures))
+    let d = c .before .before in
+    let e = d .before .before .before in
+    dead-listed _ _ _ _ _ _ (e .before .before .if1 .left) (e .if2 .left)
+    (listing-says (λ l. eqb (length l) 0) _ _ _ _ (d .set .given .1) (d .before .before .viable-tiles-at .ensures) (c .no-colour .ensures))
 
 pub is-dead-end-spec : {M : Type 1} → statement M
 is-dead-end-spec =

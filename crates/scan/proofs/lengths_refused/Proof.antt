@@ -1,8 +1,7 @@
 -- `scan::lengths_refused` meets its contract: each exit answers the first check that fails. Assumes nothing.
-use mathlib.Core.Path.{_∙_, ap}
-use Rattle.rules.specs.Tests.{hasLength}
 use Rattle.base.proofs.Bools.{passes}
-use Rattle.base.proofs.Chain.{refuse, pass, no-check}
+use Rattle.base.proofs.Chain.{chain}
+use Rattle.checks.proofs.Lengths.{length-as}
 use borrow.Author.Needs.{needs}
 use Rattle.scan.proofs.lengths_refused.Statement.{statement}
 use Rattle.scan.proofs.lengths_refused.Tie as tie
@@ -11,7 +10,7 @@ board-sides-requires : tie.Need-board-sides-requires
 board-sides-requires c κs = search needs
 
 returns : tie.Need-returns
-returns c = refuse _ _ (c .before .board-sides .ensures) (c .if1 .taken)
+returns c = search chain depth 20 fits 5000
 
 cells-of-requires : tie.Need-cells-of-requires
 cells-of-requires c κs = passes _ (c .before .board-sides .ensures) (c .if1 .left)
@@ -20,53 +19,22 @@ words-have-length-requires : tie.Need-words-have-length-requires
 words-have-length-requires c κs = search needs
 
 returns-2 : tie.Need-returns-2
-returns-2 c =
-    let e2 = c in
-    let e1 = e2 .before .before .before in
-    let a = e1 .before .before .before .before .before .args in
-    pass _ _ _ (e1 .before .board-sides .ensures) (e1 .if1 .left)
-    (refuse _ _ (e2 .before .words-have-length .ensures ∙ ap (hasLength (a .pieces .now)) (e2 .before .before .cells-of .ensures)) (e2 .if2 .taken))
+returns-2 c = search (chain, length-as) depth 20 fits 5000
 
 words-have-length-requires-2 : tie.Need-words-have-length-requires-2
 words-have-length-requires-2 c κs = search needs
 
 returns-3 : tie.Need-returns-3
-returns-3 c =
-    let e3 = c in
-    let e2 = e3 .before .before in
-    let e1 = e2 .before .before .before in
-    let a = e1 .before .before .before .before .before .args in
-    pass _ _ _ (e1 .before .board-sides .ensures) (e1 .if1 .left)
-    (pass _ _ _ (e2 .before .words-have-length .ensures ∙ ap (hasLength (a .pieces .now)) (e2 .before .before .cells-of .ensures)) (e2 .if2 .left)
-    (refuse _ _ (e3 .before .words-have-length2 .ensures ∙ ap (hasLength (a .weights .now)) (e2 .before .before .cells-of .ensures)) (e3 .if3 .taken)))
+returns-3 c = search (chain, length-as) depth 20 fits 5000
 
 whole-tiles-requires : tie.Need-whole-tiles-requires
 whole-tiles-requires c κs = search needs
 
 returns-4 : tie.Need-returns-4
-returns-4 c =
-    let e4 = c in
-    let e3 = e4 .before .before in
-    let e2 = e3 .before .before in
-    let e1 = e2 .before .before .before in
-    let a = e1 .before .before .before .before .before .args in
-    pass _ _ _ (e1 .before .board-sides .ensures) (e1 .if1 .left)
-    (pass _ _ _ (e2 .before .words-have-length .ensures ∙ ap (hasLength (a .pieces .now)) (e2 .before .before .cells-of .ensures)) (e2 .if2 .left)
-    (pass _ _ _ (e3 .before .words-have-length2 .ensures ∙ ap (hasLength (a .weights .now)) (e2 .before .before .cells-of .ensures)) (e3 .if3 .left)
-    (refuse _ _ (e4 .before .whole-tiles .ensures) (e4 .if4 .taken))))
+returns-4 c = search (chain, length-as) depth 20 fits 5000
 
 returns-5 : tie.Need-returns-5
-returns-5 c =
-    let e4 = c in
-    let e3 = e4 .before .before in
-    let e2 = e3 .before .before in
-    let e1 = e2 .before .before .before in
-    let a = e1 .before .before .before .before .before .args in
-    pass _ _ _ (e1 .before .board-sides .ensures) (e1 .if1 .left)
-    (pass _ _ _ (e2 .before .words-have-length .ensures ∙ ap (hasLength (a .pieces .now)) (e2 .before .before .cells-of .ensures)) (e2 .if2 .left)
-    (pass _ _ _ (e3 .before .words-have-length2 .ensures ∙ ap (hasLength (a .weights .now)) (e2 .before .before .cells-of .ensures)) (e3 .if3 .left)
-    (pass _ _ _ (e4 .before .whole-tiles .ensures) (e4 .if4 .left)
-    no-check)))
+returns-5 c = search (chain, length-as) depth 20 fits 5000
 
 pub lengths-refused-spec : {M : Type 1} → statement M
 lengths-refused-spec =

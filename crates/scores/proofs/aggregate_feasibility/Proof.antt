@@ -1,9 +1,10 @@
 -- `scores::aggregate_feasibility` meets its contract: refused, or the region of its spans scored. Assumes nothing.
-use mathlib.Core.Path.{refl, sym, _∙_}
+use mathlib.Core.Path.{sym, _∙_}
 use native.Mathlib.Omega.{arith}
-use Rattle.floats.proofs.Written.{refused, done}
+use Rattle.base.proofs.Chain.{chain, part-passed}
+use Rattle.rules.proofs.Answered.{answers, done}
 use Rattle.scores.specs.Ordered.{orderedSpan}
-use Rattle.scores.proofs.Accept.{Lifts, lifts}
+use Rattle.scores.proofs.Accept.{LiftPasses, lift-passes}
 use Rattle.scores.proofs.Region.{lift-scored, scores-fit}
 use borrow.Author.Needs.{needs}
 use Rattle.scores.proofs.aggregate_feasibility.Statement.{statement}
@@ -16,12 +17,12 @@ same-length : tie.Need-same-length
 same-length c = search needs
 
 returns : tie.Need-returns
-returns c = refused _ _ _ (c .before .lift-refused .ensures) (c .if1 .taken) refl
+returns c = search (chain, answers) depth 20 fits 5000
 
 accepts : (c : tie.Else1)
     → let a = c .before .before .before .before .before .args in
-    Lifts (a .scores .now) (a .counts .now) (a .rows) (a .cols) (a .tiles) (a .rowspan) (a .colspan)
-accepts c = lifts _ _ _ _ _ _ _ (sym (c .before .lift-refused .ensures) ∙ c .if1 .left)
+    LiftPasses (a .scores .now) (a .counts .now) (a .rows) (a .cols) (a .tiles) (a .rowspan) (a .colspan)
+accepts c = lift-passes _ _ _ _ _ _ _ (sym (c .before .lift-refused .ensures) ∙ c .if1 .left)
 
 ordered-requires : tie.Need-ordered-requires
 ordered-requires c κs = search needs
@@ -34,7 +35,7 @@ score-region-requires c κs = let i = c .before .before .before in
     let a = i .before .before .before .before .before .args in
     let s = accepts i in
     rw (c .before .ordered .ensures, c .ordered2 .ensures)
-    (scores-fit (a .scores .now) (a .counts .now) (a .rows) (a .cols) (a .tiles) (s .sides) (s .planes) (orderedSpan (a .rowspan)) (orderedSpan (a .colspan)) (omega arith) (s .rows-end) (omega arith) (s .cols-end))
+    (scores-fit _ _ _ _ _ (s .sides) (s .planes) (orderedSpan (a .rowspan)) (orderedSpan (a .colspan)) (omega arith) (s .rows-end) (omega arith) (s .cols-end))
 
 same-length-2 : tie.Need-same-length-2
 same-length-2 c = search needs
@@ -45,9 +46,10 @@ returns-2 c = let k = c .before .before in
     let i = o .before .before .before in
     let a = i .before .before .before .before .before .args in
     let s = accepts i in
-    done _ _ _ (i .before .lift-refused .ensures) (i .if1 .left)
+    done _ _ _ (part-passed _ (i .before .lift-refused .ensures) (i .if1 .left))
     (k .score-region .ensures
-    ∙ rw (o .before .ordered .ensures, o .ordered2 .ensures) (lift-scored (a .scores .now) (a .counts .now) (a .rows) (a .cols) (a .tiles) (s .sides) (s .planes .scores-long) (a .rowspan) (a .colspan)))
+    ∙ rw (o .before .ordered .ensures, o .ordered2 .ensures)
+    (lift-scored (a .scores .now) (a .counts .now) (a .rows) (a .cols) (a .tiles) (s .sides) (s .planes .scores-long) (a .rowspan) (a .colspan)))
 
 pub aggregate-feasibility-spec : {M : Type 1} → statement M
 aggregate-feasibility-spec =

@@ -1,14 +1,15 @@
 -- `scores::update_feasibility` meets its contract: refused, or the cells past the targets scored. Assumes nothing.
-use mathlib.Core.Path.{_≡_, refl, sym, _∙_}
+use mathlib.Core.Path.{_≡_, sym, _∙_}
 use Prim.Native.Nat.{_<_, _≤_}
 use native.Mathlib.Omega.{arith}
 use Rattle.checks.proofs.Sides.{board-rows, board-cols}
 use Rattle.rules.specs.Places.{cellOf}
 use Rattle.places.proofs.Indices.{spanRound, row-below, col-below}
-use Rattle.floats.proofs.Written.{refused, done}
-use Rattle.floats.proofs.Spanned.{never-refused, rows-round, cols-round}
+use Rattle.base.proofs.Chain.{chain, part-passed}
+use Rattle.rules.proofs.Answered.{answers, done}
+use Rattle.spans.proofs.Spanned.{never-refused, rows-round, cols-round}
 use Rattle.scoring.specs.Region.{pastTargets}
-use Rattle.scores.proofs.Accept.{Lays, lays}
+use Rattle.scores.proofs.Accept.{LayPasses, lay-passes}
 use Rattle.scores.proofs.Region.{lay-scored, scores-fit}
 use borrow.Author.Needs.{needs}
 use Rattle.scores.proofs.update_feasibility.Statement.{statement}
@@ -21,12 +22,12 @@ same-length : tie.Need-same-length
 same-length c = search needs
 
 returns : tie.Need-returns
-returns c = refused _ _ _ (c .before .lay-refused .ensures) (c .if1 .taken) refl
+returns c = search (chain, answers) depth 20 fits 5000
 
 accepts : (c : tie.Else1)
     → let a = c .before .before .before .before .before .args in
-    Lays (a .scores .now) (a .counts .now) (a .rows) (a .cols) (a .tiles) (a .position) (a .offset)
-accepts c = lays _ _ _ _ _ _ _ (sym (c .before .lay-refused .ensures) ∙ c .if1 .left)
+    LayPasses (a .scores .now) (a .counts .now) (a .rows) (a .cols) (a .tiles) (a .position) (a .offset)
+accepts c = lay-passes _ _ _ _ _ _ _ (sym (c .before .lay-refused .ensures) ∙ c .if1 .left)
 
 get-region-spans-requires : tie.Need-get-region-spans-requires
 get-region-spans-requires c κs = search needs
@@ -42,8 +43,7 @@ same-length-2 c = search needs
 
 returns-2 : tie.Need-returns-2
 returns-2 c = let g = c .before .before in
-    let a = g .before .before .before .before .before .before .args in
-    absurd (never-refused (a .rows) (a .cols) (a .position) (a .offset) 2 (accepts (g .before) .place) (omega arith) (g .get-region-spans .ensures) (c .enum-told .given .1))
+    absurd (never-refused _ _ _ _ 2 (accepts (g .before) .place) (omega arith) (g .get-region-spans .ensures) (c .enum-told .given .1))
 
 -- the spans are those round the cell, and small
 down-is : (c : tie.After-known-told)
@@ -51,16 +51,14 @@ down-is : (c : tie.After-known-told)
     c .before .down .given .0 .0 ≡ spanRound (cellOf (a .position) (a .offset) .0) 2
 down-is c =
     let g = c .before .before .before in
-    let a = g .before .before .before .before .before .before .args in
-    rows-round (a .rows) (a .cols) (a .position) (a .offset) 2 (accepts (g .before) .place) (omega arith) (g .get-region-spans .ensures) (c .before .down .given .1)
+    rows-round _ _ _ _ 2 (accepts (g .before) .place) (omega arith) (g .get-region-spans .ensures) (c .before .down .given .1)
 
 across-is : (c : tie.After-known-told)
     → let a = c .before .before .before .before .before .before .before .before .before .args in
     c .before .down .given .0 .1 .0 ≡ spanRound (cellOf (a .position) (a .offset) .1) 2
 across-is c =
     let g = c .before .before .before in
-    let a = g .before .before .before .before .before .before .args in
-    cols-round (a .rows) (a .cols) (a .position) (a .offset) 2 (accepts (g .before) .place) (omega arith) (g .get-region-spans .ensures) (c .before .down .given .1)
+    cols-round _ _ _ _ 2 (accepts (g .before) .place) (omega arith) (g .get-region-spans .ensures) (c .before .down .given .1)
 
 past-targets-requires : tie.Need-past-targets-requires
 past-targets-requires c κs =
@@ -88,7 +86,7 @@ score-region-requires c κs = let p = c .before in
     let a = i .before .before .before .before .before .args in
     let s = accepts i in
     rw (p .before .past-targets .ensures, p .past-targets2 .ensures)
-    (scores-fit (a .scores .now) (a .counts .now) (a .rows) (a .cols) (a .tiles) (s .sides) (s .planes) (pastTargets (a .rows) _) (pastTargets (a .cols) _) (omega arith) (omega arith) (omega arith) (omega arith))
+    (scores-fit _ _ _ _ _ (s .sides) (s .planes) (pastTargets (a .rows) _) (pastTargets (a .cols) _) (omega arith) (omega arith) (omega arith) (omega arith))
 
 same-length-3 : tie.Need-same-length-3
 same-length-3 c = search needs
@@ -100,10 +98,11 @@ returns-3 c = let k = c .before .before in
     let i = d .before .before .before .before in
     let a = i .before .before .before .before .before .args in
     let s = accepts i in
-    done _ _ _ (i .before .lay-refused .ensures) (i .if1 .left)
+    done _ _ _ (part-passed _ (i .before .lay-refused .ensures) (i .if1 .left))
     (k .score-region .ensures
     ∙ rw (p .before .past-targets .ensures, p .past-targets2 .ensures)
-    (lay-scored (a .scores .now) (a .counts .now) (a .rows) (a .cols) (a .tiles) (s .sides) (s .planes .scores-long) (a .position) (a .offset) (s .place .boarded) (down-is d) (across-is d)))
+    (lay-scored (a .scores .now) (a .counts .now) (a .rows) (a .cols) (a .tiles) (s .sides) (s .planes .scores-long)
+    (a .position) (a .offset) (s .place .boarded) (down-is d) (across-is d)))
 
 pub update-feasibility-spec : {M : Type 1} → statement M
 update-feasibility-spec =

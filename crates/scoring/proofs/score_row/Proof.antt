@@ -1,16 +1,18 @@
--- `scoring::score_row` meets its contract: a sweep. Assumes nothing.
-use Prim.Native.Nat.{ℕ, _+_, _-_}
+-- `scoring::score_row` meets its contract: a sweep along the row. Assumes nothing.
+use Prim.Native.Nat.{_-_}
 use native.Mathlib.Omega.{arith}
 use lib.ListN.{length}
 use lib.Ieee.{nan}
-use Rattle.floats.proofs.Sweep.{Sweep, sweep-none, sweep-turn, sweep-all}
-use Rattle.means.specs.Box.{scoreAt}
+use Rattle.base.specs.Regions.{overRow}
+use Rattle.base.proofs.Sweep.{Sweep, sweep-none, sweep-turn, sweep-all}
+use Rattle.base.proofs.Regions.{entryThen}
+use Rattle.scoring.specs.Region.{scoreStep}
 use borrow.Author.Needs.{needs}
 use Rattle.scoring.proofs.score_row.Statement.{statement}
 use Rattle.scoring.proofs.score_row.Tie as tie
 
 abbrev Inv-loop : tie.InvT-loop
-Inv-loop row₀ squared counts tiles cols r left j₀ row j = Sweep nan (λ (n : ℕ). scoreAt squared counts tiles cols r (left + n)) row₀ row j
+Inv-loop row₀ squared counts tiles cols r left j₀ row j = Sweep nan (entryThen nan (scoreStep squared counts tiles cols) r left row₀) row₀ row j
 
 abbrev μ-loop : tie.MeasureT-loop
 μ-loop row₀ squared counts tiles cols r left j₀ row j = length row₀ - j
@@ -43,6 +45,7 @@ same-length : tie.Need-same-length Inv-loop μ-loop
 same-length c = search needs
 
 returns : tie.Need-returns Inv-loop μ-loop
+unfolding overRow
 returns c = sweep-all (c .before .loop .inv) (search needs)
 
 pub score-row-spec : {M : Type 1} → statement M

@@ -39,7 +39,15 @@ loop-less : tie.Need-loop-less Inv-loop μ-loop
 loop-less c = search needs
 
 loop-again : tie.Need-loop-again Inv-loop μ-loop
-loop-again c = (omega arith, mod-lt _ (lit< tt), ap (λ (x : ℕ). (x * spread + c .wide .result) % buckets) (c .before .before .before .loop .inv .2) ∙ ap (λ (x : ℕ). (bucketTo (λ i. getD (c .before .before .before .before .args .tile .now) i 0) (c .before .before .before .loop .k) * spread + x) % buckets) (c .wide .ensures .0) ∙ bucket-more (λ i. getD (c .before .before .before .before .args .tile .now) i 0) (c .before .before .before .loop .k))
+loop-again c =
+    let l = c .before .before .before in
+    let cell : ℕ → ℕ = λ i. getD (l .before .args .tile .now) i 0 in (
+      omega arith,
+      mod-lt _ (lit< tt),
+      ap (λ (x : ℕ). (x * spread + c .wide .result) % buckets) (l .loop .inv .2)
+          ∙ ap (λ (x : ℕ). (bucketTo cell (l .loop .k) * spread + x) % buckets) (c .wide .ensures .0)
+          ∙ bucket-more cell (l .loop .k),
+    )
 
 returns : tie.Need-returns Inv-loop μ-loop
 returns c = (c .before .loop .inv .2 ∙ bucket-done _ _ (omega arith), c .before .loop .inv .1)

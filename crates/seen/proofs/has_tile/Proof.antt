@@ -24,7 +24,7 @@ number-requires : tie.Need-number-requires Inv-loop μ-loop
 number-requires c κs = search needs
 
 loop-holds : tie.Need-loop-holds Inv-loop μ-loop
-loop-holds c = search-start _ _ _ _ (c .before .before .before .pre .0) _ _ (c .before .before .before .pre .1) (c .before .before .before .pre .2) (c .number .ensures)
+loop-holds c = let s = c .before .before .before in search-start _ _ _ _ (s .pre .0) _ _ (s .pre .1) (s .pre .2) (c .number .ensures)
 
 sub-n : tie.Need-sub-n Inv-loop μ-loop
 sub-n c = search needs
@@ -37,19 +37,29 @@ unfolding hasTile
 returns c = some-stop _ (omega (arith, c .before .before .before .loop .inv .low)) (sym (c .before .same-tile .ensures) ∙ c .if1 .taken)
 
 mul-number-2 : tie.Need-mul-number-2 Inv-loop μ-loop
-mul-number-2 c = record { fits = omega (arith, c .before .before .before .loop .inv .low, c .before .before .before .before .before .before .before .pre .0 .few) }
+mul-number-2 c =
+    let l = c .before .before .before in record { fits = omega (arith, l .loop .inv .low, l .before .before .before .before .pre .0 .few) }
 
 element-copy-out-number-2 : tie.Need-element-copy-out-number-2 Inv-loop μ-loop
-element-copy-out-number-2 c = omega (arith, c .before .before .before .loop .inv .low, c .before .before .before .before .before .before .before .pre .0 .few, c .before .before .loop-test .taken)
+element-copy-out-number-2 c =
+    let l = c .before .before .before in
+    omega (arith, l .loop .inv .low, l .before .before .before .before .pre .0 .few, c .before .before .loop-test .taken)
 
 number-requires-2 : tie.Need-number-requires-2 Inv-loop μ-loop
 number-requires-2 c κs = search needs
 
 loop-less : tie.Need-loop-less Inv-loop μ-loop
-loop-less c = search-less _ _ _ _ (c .before .before .before .before .before .before .before .before .before .pre .0) _ _ (c .before .before .before .before .before .loop .inv) (c .before .before .before .before .loop-test .taken) (c .number2 .ensures)
+loop-less c =
+    let t = c .before .before .before .before in
+    let l = t .before in
+    search-less _ _ _ _ (l .before .before .before .before .pre .0) _ _ (l .loop .inv) (t .loop-test .taken) (c .number2 .ensures)
 
 loop-again : tie.Need-loop-again Inv-loop μ-loop
-loop-again c = search-on _ _ _ _ (c .before .before .before .before .before .before .before .before .before .pre .0) _ _ (c .before .before .before .before .before .loop .inv) (c .before .before .before .before .loop-test .taken) (sym (c .before .before .before .same-tile .ensures) ∙ c .before .before .if1 .left) (c .number2 .ensures)
+loop-again c =
+    let t = c .before .before .before .before in
+    let l = t .before in
+    search-on _ _ _ _ (l .before .before .before .before .pre .0) _ _ (l .loop .inv) (t .loop-test .taken)
+    (sym (c .before .before .before .same-tile .ensures) ∙ c .before .before .if1 .left) (c .number2 .ensures)
 
 returns-2 : tie.Need-returns-2 Inv-loop μ-loop
 returns-2 c = search-none _ _ _ (c .before .loop .inv) (c .loop-test .left)

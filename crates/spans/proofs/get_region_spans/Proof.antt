@@ -2,10 +2,11 @@
 -- Assumes nothing.
 use borrow.Author.Needs.{needs}
 use mathlib.Core.Path.{sym, _∙_}
-use lib.IntN.{_+ℤ_}
-use Rattle.base.proofs.Chain.{chain, part-passed}
+use lib.IntN.{ℤ, _+ℤ_}
+use Rattle.base.proofs.Chain.{chain}
+use Rattle.rules.proofs.Answered.{answers}
 use Rattle.rules.specs.Places.{spanOf, regionSpans}
-use Rattle.rules.proofs.Answered.{answers, span-told}
+use Rattle.rules.specs.declared.Span.{Span}
 use Rattle.places.proofs.Wide.{same-two}
 use Rattle.places.proofs.Indices.{region}
 use Rattle.spans.proofs.get_region_spans.Statement.{statement}
@@ -30,13 +31,15 @@ returns-2 : tie.Need-returns-2
 unfolding regionSpans
 returns-2 c =
     let s = c .before .before .before in
-    let d = s .before .before .before in
-    let a = d .before .before .args in
-    span-told _ (part-passed _ (d .before .region-refused .ensures) (d .if1 .left))
-    (s .span-along .ensures
-    ∙ same-two (λ x y. spanOf (x +ℤ y) (a .radius)) (a .coordinates .0) (a .offset .0) (s .before .before .struct-told .given .0 .1) (s .before .struct-told2 .given .0 .1))
-    (c .span-along2 .ensures
-    ∙ same-two (λ x y. spanOf (x +ℤ y) (a .radius)) (a .coordinates .1) (a .offset .1) (c .before .before .struct-told3 .given .1 .0 .1) (c .before .struct-told4 .given .1 .0 .1))
+    let a = s .before .before .before .before .before .args in
+    let span : ℤ → ℤ → Span = λ x y. spanOf (x +ℤ y) (a .radius) in
+    let rows = s .span-along .ensures
+    ∙ same-two span (a .coordinates .0) (a .offset .0) (s .before .before .struct-told .given .0 .1) (s .before .struct-told2 .given .0 .1)
+    in
+    let cols = c .span-along2 .ensures
+    ∙ same-two span (a .coordinates .1) (a .offset .1) (c .before .before .struct-told3 .given .1 .0 .1) (c .before .struct-told4 .given .1 .0 .1)
+    in
+    search (chain, answers) depth 20 fits 5000
 
 pub get-region-spans-spec : {M : Type 1} → statement M
 get-region-spans-spec =

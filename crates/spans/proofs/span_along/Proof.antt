@@ -2,28 +2,22 @@
 -- Assumes nothing.
 use borrow.Author.Needs.{needs}
 use Prim.Native.Nat.{ℕ, _^_}
-use native.Mathlib.Omega.{arith}
 use mathlib.Core.Path.{_≡_, _∙_, ap}
-use lib.IntN.{pos, _+ℤ_}
+use lib.IntN.{_+ℤ_}
 use mir.Syntax.{w64}
 use mir.Val.{ofZ}
 use Rattle.base.specs.Whole.{clip}
 use Rattle.rules.specs.Places.{spanOf}
 use Rattle.rules.specs.declared.Span.{Span}
-use Rattle.base.proofs.Signs.{Reads, counted, add-fits, sub-fits, added, subbed}
+use Rattle.base.proofs.Signs.{Reads, add-fits, sub-fits, added, subbed}
 use Rattle.places.proofs.Wide.{index-is}
+use Rattle.spans.proofs.Radius.{one-is, reach-is}
 use Rattle.spans.proofs.span_along.Statement.{statement}
 use Rattle.spans.proofs.span_along.Tie as tie
 
 module _ (c : tie.After-signed-index) where
   middle-is : Reads w64 (ofZ w64 (c .signed-index .result)) (c .before .args .coordinate +ℤ c .before .args .offset) (2 ^ 32)
   middle-is = index-is (c .before .fits .coordinate) (c .before .fits .offset) (c .signed-index .ensures)
-
-  reach-is : Reads w64 (c .before .args .radius) (pos (c .before .args .radius)) 64
-  reach-is = counted w64 (omega arith) tt
-
-one-is : Reads w64 1 (pos 1) 2
-one-is = counted w64 (omega arith) tt
 
 signed-index-requires : tie.Need-signed-index-requires
 signed-index-requires c κs = search needs
@@ -32,16 +26,16 @@ cast-reach : tie.Need-cast-reach
 cast-reach c = search needs
 
 sub-clip-to : tie.Need-sub-clip-to
-sub-clip-to c = sub-fits (middle-is c) (reach-is c) tt
+sub-clip-to c = sub-fits (middle-is c) (reach-is (c .before .pre)) tt
 
 clip-to-requires : tie.Need-clip-to-requires
 clip-to-requires c κs = search needs
 
 add-clip-to : tie.Need-add-clip-to
-add-clip-to c = add-fits (middle-is (c .before)) (reach-is (c .before)) tt
+add-clip-to c = add-fits (middle-is (c .before)) (reach-is (c .before .before .pre)) tt
 
 add-clip-to-2 : tie.Need-add-clip-to-2
-add-clip-to-2 c = add-fits (added (middle-is (c .before)) (reach-is (c .before)) tt) one-is tt
+add-clip-to-2 c = add-fits (added (middle-is (c .before)) (reach-is (c .before .before .pre)) tt) one-is tt
 
 clip-to-requires-2 : tie.Need-clip-to-requires-2
 clip-to-requires-2 c κs = search needs
@@ -54,8 +48,8 @@ unfolding spanOf
 returns c =
     let s = c .before .before in
     both
-    (c .before .clip-to .ensures ∙ ap clip (subbed (middle-is s) (reach-is s) tt .is))
-    (c .clip-to2 .ensures ∙ ap clip (added (added (middle-is s) (reach-is s) tt) one-is tt .is))
+    (c .before .clip-to .ensures ∙ ap clip (subbed (middle-is s) (reach-is (s .before .pre)) tt .is))
+    (c .clip-to2 .ensures ∙ ap clip (added (added (middle-is s) (reach-is (s .before .pre)) tt) one-is tt .is))
 
 pub span-along-spec : {M : Type 1} → statement M
 span-along-spec =

@@ -1,7 +1,7 @@
 -- `taking::take_place` meets its contract, by whether the place is on the board. Assumes nothing.
 use mathlib.Core.Bool.{true}
 use mathlib.Core.Path.{_≡_, sym, ap, _∙_}
-use Prim.Native.Nat.{ℕ, _+_, _*_, _<_, _≤_}
+use Prim.Native.Nat.{ℕ, _*_, _<_, _≤_}
 use native.Mathlib.Omega.{arith}
 use Rattle.base.proofs.Bools.{passes, fails}
 use Rattle.rules.specs.Tests.{onBoard}
@@ -43,8 +43,7 @@ few c = few-cells _ _ (c .before .before .before .before .before .pre .sides)
 
 below : (c : tie.After-cell-of)
     → let a = c .before .before .before .before .before .args in
-    c .cell-of .result .0 * a .cols + c .cell-of .result .1 < a .rows * a .cols
-unfolding numberOf
+    numberOf (a .cols) (c .cell-of .result) < a .rows * a .cols
 below c =
     let a = c .before .before .before .before .before .args in
     rw (c .cell-of .ensures) (number-below (a .rows) (a .cols) (a .position) (a .offset) (boarded c))

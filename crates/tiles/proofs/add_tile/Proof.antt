@@ -55,8 +55,14 @@ same-length-3 : tie.Need-same-length-3
 same-length-3 c = search needs
 
 returns-3 : tie.Need-returns-3
-returns-3 c = let s = c .before .before .before .before .before .before .before .before .before .before .before .before .before .before .before in
-    put _ _ _ _ _ (s .pre .0) (s .pre .1) (s .pre .2) (s .pre .3) (sym (c .before .before .before .before .before .before .before .before .before .has-tile .ensures) ∙ c .before .before .before .before .before .before .before .before .if1 .left) _ _ _ _ (c .before .before .before .before .before .before .before .if2 .left) (c .before .before .before .before .before .before .before .before .before .before .before .before .before .bucket-of .ensures) (c .before .before .before .before .before .put-tile .ensures) (c .note-tile .ensures)
+returns-3 c =
+    let p = c .before .before .before .before .before in
+    let r = p .before .before in
+    let h = r .before .before in
+    let b = h .before .before .before .before in
+    let s = b .before .before in
+    put _ _ _ _ _ (s .pre .0) (s .pre .1) (s .pre .2) (s .pre .3) (sym (h .has-tile .ensures) ∙ r .before .if1 .left) _ _ _ _ (r .if2 .left)
+    (b .bucket-of .ensures) (p .put-tile .ensures) (c .note-tile .ensures)
 
 pub add-tile-spec : {M : Type 1} → statement M
 add-tile-spec =

@@ -10,7 +10,8 @@ use Rattle.tiles.proofs.gather.Statement.{statement}
 use Rattle.tiles.proofs.gather.Tie as tie
 
 abbrev Inv-loop : tie.InvT-loop
-Inv-loop store₀ source rows cols rotations reflections total room heads₀ nexts₀ n₀ left₀ store heads nexts n left = (left ≤ total) × Kept (variant source rows cols rotations reflections) store₀ (total - left) n store heads nexts
+Inv-loop store₀ source rows cols rotations reflections total room heads₀ nexts₀ n₀ left₀ store heads nexts n left =
+    (left ≤ total) × Kept (variant source rows cols rotations reflections) store₀ (total - left) n store heads nexts
 
 abbrev μ-loop : tie.MeasureT-loop
 μ-loop store₀ source rows cols rotations reflections total room heads₀ nexts₀ n₀ left₀ store heads nexts n left = left
@@ -28,15 +29,29 @@ variant-of-requires : tie.Need-variant-of-requires Inv-loop μ-loop
 variant-of-requires c κs = search needs
 
 add-tile-requires : tie.Need-add-tile-requires Inv-loop μ-loop
-add-tile-requires c κs = let k = c .before .before .before .before .before .before .loop .inv .1 in
-    (omega (arith, k .fitted, k .same), omega (arith, k .few, c .before .before .before .before .before .loop-test .taken, c .before .before .before .before .before .before .before .variants-of .ensures .1), (variant-nine _ _ _ _ _ _ _ (c .before .before .before .before .variant-of .ensures)), kept-chained _ _ _ _ _ _ _ k)
+add-tile-requires c κs =
+    let v = c .before .before .before .before in
+    let l = v .before .before in
+    let k = l .loop .inv .1 in (
+      omega (arith, k .fitted, k .same),
+      omega (arith, k .few, v .before .loop-test .taken, l .before .variants-of .ensures .1),
+      variant-nine _ _ _ _ _ _ _ (v .variant-of .ensures),
+      kept-chained _ _ _ _ _ _ _ k,
+    )
 
 same-length : tie.Need-same-length Inv-loop μ-loop
-same-length c = c .before .before .before .add-tile .kept .0 ∙ c .before .before .before .before .before .before .before .before .before .before .loop .inv .1 .same
+same-length c =
+    let a = c .before .before .before in
+    a .add-tile .kept .0 ∙ a .before .before .before .before .before .before .before .loop .inv .1 .same
 
 returns : tie.Need-returns Inv-loop μ-loop
 unfolding extracted
-returns c = full-end _ _ _ _ _ _ _ (c .before .before .before .before .before .before .before .before .before .before .loop .inv .1) _ _ (c .before .before .before .before .before .before .before .before .before .before .before .variants-of .ensures .0) _ _ _ _ _ (c .before .before .before .before .before .before .before .before .variant-of .ensures) (variant-nine _ _ _ _ _ _ _ (c .before .before .before .before .before .before .before .before .variant-of .ensures)) (c .before .before .before .add-tile .ensures) (omega (arith, c .before .before .before .before .before .before .before .before .before .loop-test .taken, c .before .before .before .before .before .before .before .before .before .before .loop .inv .0)) (c .if1 .taken)
+returns c =
+    let a = c .before .before .before in
+    let v = a .before .before .before .before .before in
+    let l = v .before .before in
+    full-end _ _ _ _ _ _ _ (l .loop .inv .1) _ _ (l .before .variants-of .ensures .0) _ _ _ _ _ (v .variant-of .ensures)
+    (variant-nine _ _ _ _ _ _ _ (v .variant-of .ensures)) (a .add-tile .ensures) (omega (arith, v .before .loop-test .taken, l .loop .inv .0)) (c .if1 .taken)
 
 sub-left : tie.Need-sub-left Inv-loop μ-loop
 sub-left c = search needs
@@ -45,14 +60,23 @@ loop-less : tie.Need-loop-less Inv-loop μ-loop
 loop-less c = search needs
 
 loop-again : tie.Need-loop-again Inv-loop μ-loop
-loop-again c = (omega arith, kept-then _ _ _ _ _ _ _ (c .before .before .before .before .before .before .before .before .before .before .loop .inv .1) _ _ _ _ _ (c .before .before .before .before .before .before .before .before .variant-of .ensures) (variant-nine _ _ _ _ _ _ _ (c .before .before .before .before .before .before .before .before .variant-of .ensures)) (c .before .before .before .add-tile .ensures) (c .if1 .left) (c .before .before .before .add-tile .kept .0 ∙ c .before .before .before .before .before .before .before .before .before .before .loop .inv .1 .same) _ (omega (arith, c .before .before .before .before .before .before .before .before .before .before .loop .inv .0)))
+loop-again c =
+    let a = c .before .before .before in
+    let v = a .before .before .before .before .before in
+    let l = v .before .before in (
+      omega arith,
+      kept-then _ _ _ _ _ _ _ (l .loop .inv .1) _ _ _ _ _ (v .variant-of .ensures) (variant-nine _ _ _ _ _ _ _ (v .variant-of .ensures)) (a .add-tile .ensures)
+          (c .if1 .left) (a .add-tile .kept .0 ∙ l .loop .inv .1 .same) _ (omega (arith, l .loop .inv .0)),
+    )
 
 same-length-2 : tie.Need-same-length-2 Inv-loop μ-loop
 same-length-2 c = search needs
 
 returns-2 : tie.Need-returns-2 Inv-loop μ-loop
 unfolding extracted
-returns-2 c = done-end _ _ _ _ _ _ _ (c .before .loop .inv .1) _ _ (c .before .before .variants-of .ensures .0) (omega arith) (omega (arith, c .loop-test .left))
+returns-2 c =
+    let l = c .before in
+    done-end _ _ _ _ _ _ _ (l .loop .inv .1) _ _ (l .before .variants-of .ensures .0) (omega arith) (omega (arith, c .loop-test .left))
 
 pub gather-spec : {M : Type 1} → statement M
 gather-spec =

@@ -7,7 +7,8 @@ use Rattle.base.specs.Whole.{clip}
 use Rattle.rules.specs.Places.{boxedAfter}
 use Rattle.base.proofs.Signs.{add-fits, sub-fits, added, subbed}
 use Rattle.places.proofs.Wide.{widened, cast-fits}
-use Rattle.extension.proofs.Edges.{zero-is, one-is, side-is, pad-is, first-is, last-is}
+use Rattle.spans.proofs.Radius.{one-is}
+use Rattle.extension.proofs.Edges.{zero-is, side-is, pad-is, first-is, last-is}
 use Rattle.extension.proofs.pads.boxed_after.Statement.{statement}
 use Rattle.extension.proofs.pads.boxed_after.Tie as tie
 

@@ -6,7 +6,8 @@ use Rattle.base.specs.Whole.{clip}
 use Rattle.rules.specs.Places.{padAfter}
 use Rattle.base.proofs.Signs.{add-fits, sub-fits, added, subbed}
 use Rattle.places.proofs.Wide.{widened, cast-fits}
-use Rattle.extension.proofs.Edges.{zero-is, one-is, side-is, reach-is, first-is, last-is}
+use Rattle.spans.proofs.Radius.{one-is, reach-is}
+use Rattle.extension.proofs.Edges.{zero-is, side-is, first-is, last-is}
 use Rattle.extension.proofs.pads.pad_after.Statement.{statement}
 use Rattle.extension.proofs.pads.pad_after.Tie as tie
 

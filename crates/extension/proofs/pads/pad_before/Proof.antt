@@ -6,7 +6,8 @@ use Rattle.base.specs.Whole.{clip}
 use Rattle.rules.specs.Places.{padBefore}
 use Rattle.base.proofs.Signs.{sub-fits, subbed}
 use Rattle.places.proofs.Wide.{widened, cast-fits}
-use Rattle.extension.proofs.Edges.{zero-is, reach-is, first-is}
+use Rattle.spans.proofs.Radius.{reach-is}
+use Rattle.extension.proofs.Edges.{zero-is, first-is}
 use Rattle.extension.proofs.pads.pad_before.Statement.{statement}
 use Rattle.extension.proofs.pads.pad_before.Tie as tie
 

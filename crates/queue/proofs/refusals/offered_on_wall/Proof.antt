@@ -3,18 +3,17 @@
 -- Assumes nothing.
 use Prim.Native.Nat.{_-_}
 use mathlib.Core.Path.{_≡_, refl}
-use mathlib.Core.Bool.{_&&_}
 use native.Mathlib.Omega.{arith}
 use borrow.Author.Needs.{needs}
-use lib.ListN.{length-map, length, take, drop}
+use lib.ListN.{length-map, length}
 use Rattle.rules.specs.Bounds.{addedRoom}
-use Rattle.rules.specs.Forced.{offered, allOnWall, noPosition}
-use Rattle.queue.proofs.Wall.{wall-turn, wall-end}
+use Rattle.rules.specs.Forced.{offered}
+use Rattle.queue.proofs.Wall.{Walled, wall-turn, wall-end}
 use Rattle.queue.proofs.refusals.offered_on_wall.Statement.{statement}
 use Rattle.queue.proofs.refusals.offered_on_wall.Tie as tie
 
 abbrev Inv-loop : tie.InvT-loop
-Inv-loop entries n fine₀ i₀ fine i = (fine && allOnWall (drop i (take n entries))) ≡ allOnWall (take n entries)
+Inv-loop entries n fine₀ i₀ fine i = Walled entries n fine i
 
 abbrev μ-loop : tie.MeasureT-loop
 μ-loop entries n fine₀ i₀ fine i = n - i
@@ -45,15 +44,12 @@ loop-again : tie.Need-loop-again Inv-loop μ-loop
 loop-again c =
     let l = c .before .before .before .before in
     let s = l .before .before in
-    wall-turn (s .args .positions .entries) _ _ noPosition (c .before .before .before .loop-test .taken) (omega (arith, long s))
-    (l .loop .fine) _ (c .on-wall .ensures) (l .loop .inv)
+    wall-turn (s .args .positions .entries) _ _ (l .loop .fine) _ (l .loop .inv) (c .before .before .before .loop-test .taken) (omega (arith, long s))
+    (c .on-wall .ensures)
 
 returns : tie.Need-returns Inv-loop μ-loop
 unfolding offered
-returns c =
-    let l = c .before in
-    let s = l .before .before in
-    wall-end (s .args .positions .entries) _ _ _ (c .loop-test .left) (l .loop .inv)
+returns c = wall-end (c .before .before .before .args .positions .entries) _ _ _ (c .before .loop .inv) (c .loop-test .left)
 
 pub offered-on-wall-spec : {M : Type 1} → statement M
 offered-on-wall-spec =
