@@ -13,7 +13,7 @@ use Rattle.base.proofs.Numbers.{mul-le, cell-is}
 use Rattle.rules.specs.Tests.{boardSides}
 use Rattle.rules.specs.Answers.{deadEndAnswer}
 use Rattle.rules.specs.Forced.{deadAt, scanChecks, deadEnd}
-use Rattle.rules.specs.Grid.{flat}
+use Rattle.rules.specs.Grid.{Kind, flat, cellWith}
 use Rattle.rules.specs.declared.Cell.{Cell}
 use Rattle.rules.specs.declared.DeadEnd.{DeadEnd}
 use Rattle.rules.specs.declared.DeadEnd.the-variants as DeadEnd·
@@ -22,7 +22,7 @@ use Rattle.rules.specs.Board.{Board}
 use Rattle.jobs.specs.declared.Setup.{Setup}
 use Rattle.lines.specs.Pages.{Writes}
 use Rattle.lines.proofs.Written.{writes-as}
-use Rattle.ending.specs.Ending.{refusedLine, planesText, endText, jobWith, deadEndText, deadEndWords, noneLine, scanText}
+use Rattle.ending.specs.Ending.{refusedLine, planesText, endText, panelWith, deadEndText, deadEndWords, noneLine, scanText}
 use Rattle.ending.specs.Near.{Near}
 
 -- ---- the scan, case by case
@@ -42,9 +42,9 @@ pub near-at : {d : DeadEnd} (cell : Cell) → d ≡ DeadEnd·.At cell → Near d
 near-at cell e h = subst Near e h
 
 pub end-is : {at r : ℕ} {x y : List ℕ} {d : DeadEnd} (s : Setup) (tiles : List ℕ) (b : Board)
-    → d ≡ deadEnd (b .pieces) (b .weights) (s .board .rows) (s .board .cols) tiles (s .count)
-    → Writes (planesText b (s .board .cols) ++ scanText d) at x r y → Writes (endText (jobWith s tiles) b) at x r y
-unfolding endText jobWith
+    → d ≡ deadEnd flat (b .pieces) (b .weights) (s .board .rows) (s .board .cols) tiles (s .count)
+    → Writes (planesText b (s .board .cols) ++ scanText d) at x r y → Writes (endText (panelWith s tiles) (s .count) b) at x r y
+unfolding endText panelWith
 end-is s tiles b e w = writes-as (ap (λ (q : DeadEnd). planesText b (s .board .cols) ++ scanText q) e) w
 
 -- ---- where a dead end is
@@ -58,16 +58,17 @@ near-answer zero true cell h k = (h, k)
 near-answer zero false cell h k = tt
 near-answer (suc n) t cell h k = tt
 
-pub dead-end-near : {d : DeadEnd} (pieces weights : List ℕ) (rows cols : ℕ) (tiles : List ℕ) (count : ℕ) → boardSides rows cols ≡ true
-    → d ≡ deadEnd pieces weights rows cols tiles count → Near d
+pub dead-end-near : {d : DeadEnd} (kind : Kind) (pieces weights : List ℕ) (rows cols : ℕ) (tiles : List ℕ) (count : ℕ) → boardSides rows cols ≡ true
+    → d ≡ deadEnd kind pieces weights rows cols tiles count → Near d
 unfolding deadEnd
-dead-end-near pieces weights rows cols tiles count t e = subst Near (sym e) (near-answer (refusal (scanChecks pieces weights rows cols tiles count)) (ltb k (rows * cols)) (record { 0 = k / cols; 1 = k % cols }) row col)
+dead-end-near kind pieces weights rows cols tiles count t e =
+    subst Near (sym e) (near-answer (refusal (scanChecks pieces weights rows cols tiles count)) (ltb k (rows * cols)) (cellWith cols k) row col)
   where
     k : ℕ
-    k = first (rows * cols) (deadAt (flat rows cols) tiles pieces weights count)
+    k = first (rows * cols) (deadAt (kind rows cols) tiles pieces weights count)
 
     few : k ≤ 4096
-    few = omega (arith, first-le (rows * cols) (deadAt (flat rows cols) tiles pieces weights count), few-cells rows cols t)
+    few = omega (arith, first-le (rows * cols) (deadAt (kind rows cols) tiles pieces weights count), few-cells rows cols t)
 
     row : k / cols ≤ 4096
     row = omega (arith, few, cell-is k cols, mul-le {a = k / cols} {b = 1} {m = k / cols} {n = cols} (omega arith) (board-cols rows cols t .0))

@@ -4,7 +4,8 @@ use mathlib.Core.List.{List, [], _∷_, _++_}
 use lib.IntN.{pos}
 use Rattle.rules.specs.Bounds.{bare}
 use Rattle.rules.specs.Forced.{deadEnd}
-use Rattle.rules.specs.Board.{Job, Board}
+use Rattle.rules.specs.Board.{Panel, Board}
+use Rattle.rules.specs.Promises.{panel}
 use Rattle.rules.specs.declared.Cell.{Cell}
 use Rattle.rules.specs.declared.Offset.{Offset}
 use Rattle.rules.specs.declared.DeadEnd.{DeadEnd}
@@ -58,8 +59,9 @@ abbrev pub origin : Offset
 origin = record { 0 = pos 0; 1 = pos 0 }
 
 -- what stays fixed while a job's steps run
-unfoldable pub jobWith : Setup → List ℕ → Job
-jobWith s tiles = record { rows = s .board .rows; cols = s .board .cols; count = s .count; tiles = tiles; offset = origin }
+unfoldable pub panelWith : Setup → List ℕ → Panel
+panelWith s tiles = panel (s .board .rows) (s .board .cols) tiles origin
 
-unfoldable pub endText : Job → Board → List ℕ
-endText j b = planesText b (j .cols) ++ scanText (deadEnd (b .pieces) (b .weights) (j .rows) (j .cols) (j .tiles) (j .count))
+unfoldable pub endText : Panel → ℕ → Board → List ℕ
+endText j count b =
+    planesText b (j .cols) ++ scanText (deadEnd (j .kind) (b .pieces) (b .weights) (j .rows) (j .cols) (j .tiles) count)

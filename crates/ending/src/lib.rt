@@ -3,12 +3,12 @@ ghost use mathlib.Core.Path.{_≡_};
 ghost use mathlib.Core.Bool.{true};
 ghost use mathlib.Core.List.{_++_};
 ghost use Prim.Native.Nat.{_≤_};
-ghost use Rattle.planes.specs.Planes.{board};
 ghost use Rattle.rules.specs.Bounds.{maxCells};
 ghost use Rattle.rules.specs.Tests.{boardSides};
+ghost use Rattle.rules.specs.Promises.{before, after, boardBefore};
 ghost use Rattle.lines.specs.Lines.{planeText};
 ghost use Rattle.lines.specs.Pages.{Writes};
-ghost use Rattle.ending.specs.Ending.{refusedLine, planesText, deadEndText, scanText, deadEndWords, noneLine, endText, jobWith};
+ghost use Rattle.ending.specs.Ending.{refusedLine, planesText, deadEndText, scanText, deadEndWords, noneLine, endText, panelWith};
 ghost use Rattle.ending.specs.Near.{Near};
 use jobs::Setup;
 use rules::Cell;
@@ -23,7 +23,7 @@ fn put_headed(
     plane: &[u32],
     cols: usize,
 ) -> usize
-    ensures { λ r. ⌜ Writes ((now (heading .entry)) ++ planeText least (now (plane .entry)) cols) at (now (out .entry)) r (now (out .exit)) ⌝ }
+    ensures { λ r. ⌜ Writes (before heading ++ planeText least (before plane) cols) at (before out) r (after out) ⌝ }
 {
     let next = lines::put_text(out, at, heading);
     lines::put_plane(out, next, least, plane, cols)
@@ -37,7 +37,7 @@ fn put_planes(
     counts: &[u32],
     cols: usize,
 ) -> usize
-    ensures { λ r. ⌜ Writes (planesText (board (now (pieces .entry)) (now (weights .entry)) (now (counts .entry))) cols) at (now (out .entry)) r (now (out .exit)) ⌝ }
+    ensures { λ r. ⌜ Writes (planesText (boardBefore pieces weights counts) cols) at (before out) r (after out) ⌝ }
 {
     let second = put_headed(out, at, b"pieces\n", rules::BARE_PIECE, pieces, cols);
     let third = put_headed(out, second, b"weights\n", 0, weights, cols);
@@ -46,7 +46,7 @@ fn put_planes(
 
 // `refused N`, on a line of its own.
 pub fn put_refused(out: &mut [u8], at: usize, n: u8) -> usize
-    ensures { λ r. ⌜ Writes (refusedLine n) at (now (out .entry)) r (now (out .exit)) ⌝ }
+    ensures { λ r. ⌜ Writes (refusedLine n) at (before out) r (after out) ⌝ }
 {
     let next = lines::put_text(out, at, b"refused ");
     lines::put_number_line(out, next, n as u32)
@@ -54,7 +54,7 @@ pub fn put_refused(out: &mut [u8], at: usize, n: u8) -> usize
 
 fn put_dead_end(out: &mut [u8], at: usize, cell: Cell) -> usize
     requires { ⌜ (cell .0 ≤ maxCells) × (cell .1 ≤ maxCells) ⌝ }
-    ensures { λ r. ⌜ Writes (deadEndText cell) at (now (out .entry)) r (now (out .exit)) ⌝ }
+    ensures { λ r. ⌜ Writes (deadEndText cell) at (before out) r (after out) ⌝ }
 {
     let row = lines::put_text(out, at, b"dead end ");
     let blank = lines::put_number(out, row, cell.0 as u32);
@@ -63,14 +63,14 @@ fn put_dead_end(out: &mut [u8], at: usize, cell: Cell) -> usize
 }
 
 fn put_no_dead_end(out: &mut [u8], at: usize) -> usize
-    ensures { λ r. ⌜ Writes (deadEndWords ++ noneLine) at (now (out .entry)) r (now (out .exit)) ⌝ }
+    ensures { λ r. ⌜ Writes (deadEndWords ++ noneLine) at (before out) r (after out) ⌝ }
 {
     lines::put_text(out, at, b"dead end none\n")
 }
 
 fn put_scan(out: &mut [u8], at: usize, found: DeadEnd) -> usize
     requires { ⌜ Near found ⌝ }
-    ensures { λ r. ⌜ Writes (scanText found) at (now (out .entry)) r (now (out .exit)) ⌝ }
+    ensures { λ r. ⌜ Writes (scanText found) at (before out) r (after out) ⌝ }
 {
     match found {
         DeadEnd::At(cell) => put_dead_end(out, at, cell),
@@ -89,7 +89,7 @@ pub fn put_end(
     setup: Setup,
 ) -> usize
     requires { ⌜ boardSides (setup .board .rows) (setup .board .cols) ≡ true ⌝ }
-    ensures { λ r. ⌜ Writes (endText (jobWith setup (now (tiles .entry))) (board (now (pieces .entry)) (now (weights .entry)) (now (counts .entry)))) at (now (out .entry)) r (now (out .exit)) ⌝ }
+    ensures { λ r. ⌜ Writes (endText (panelWith setup (before tiles)) (setup .count) (boardBefore pieces weights counts)) at (before out) r (after out) ⌝ }
 {
     let rows = setup.board.rows;
     let cols = setup.board.cols;

@@ -4,6 +4,7 @@ ghost use mathlib.Core.Bool.{true};
 ghost use Prim.Native.Nat.{_<_, _≤_};
 ghost use lib.ListN.{length, getD, drop};
 ghost use Rattle.base.specs.Counting.{within};
+ghost use Rattle.base.specs.Lent.{before};
 ghost use Rattle.jobs.specs.Form.{stepEnd, stepsIn, isWhole, sidesUpTo, headFits, sampleCells, tailFits, isFormed, sidesOf, setupOf, formOf};
 use crate::Form;
 use crate::MAX_BOARD;
@@ -13,7 +14,7 @@ use crate::Sides;
 
 // The number at k, 0 past the last.
 fn number(numbers: &[u32], k: usize) -> u32
-    ensures { λ r. ⌜ r ≡ getD (now (numbers .entry)) k 0 ⌝ }
+    ensures { λ r. ⌜ r ≡ getD (before numbers) k 0 ⌝ }
 {
     if k < numbers.len() {
         return numbers[k];
@@ -46,7 +47,7 @@ fn sides_up_to(most: u32, rows: u32, cols: u32) -> bool
 // Where the step that starts at p ends; past the last number where none starts so.
 pub fn step_end(numbers: &[u32], p: usize) -> usize
     requires { ⌜ p < length (now numbers) ⌝ }
-    ensures { λ r. ⌜ r ≡ stepEnd (now (numbers .entry)) p ⌝ }
+    ensures { λ r. ⌜ r ≡ stepEnd (before numbers) p ⌝ }
 {
     if numbers[p] == 1 {
         return p + 4;
@@ -60,7 +61,7 @@ pub fn step_end(numbers: &[u32], p: usize) -> usize
 // The numbers from the given one on are whole steps.
 fn are_steps(numbers: &[u32], from: usize) -> bool
     requires { ⌜ from ≤ length (now numbers) ⌝ }
-    ensures { λ r. ⌜ r ≡ isWhole (stepsIn (drop from (now (numbers .entry)))) ⌝ }
+    ensures { λ r. ⌜ r ≡ isWhole (stepsIn (drop from (before numbers))) ⌝ }
 {
     let mut p = from;
     while p < numbers.len() {
@@ -70,7 +71,7 @@ fn are_steps(numbers: &[u32], from: usize) -> bool
 }
 
 fn head_fits(numbers: &[u32]) -> bool
-    ensures { λ r. ⌜ r ≡ headFits (now (numbers .entry)) ⌝ }
+    ensures { λ r. ⌜ r ≡ headFits (before numbers) ⌝ }
 {
     if sides_up_to(MAX_SAMPLE, number(numbers, 0), number(numbers, 1)) {
         if number(numbers, 3) <= 1 {
@@ -85,7 +86,7 @@ fn head_fits(numbers: &[u32]) -> bool
 
 fn tail_fits(numbers: &[u32], cells: usize) -> bool
     requires { ⌜ cells ≤ 256 ⌝ }
-    ensures { λ r. ⌜ r ≡ tailFits (now (numbers .entry)) cells ⌝ }
+    ensures { λ r. ⌜ r ≡ tailFits (before numbers) cells ⌝ }
 {
     if cells + 7 <= numbers.len() {
         if sides_up_to(
@@ -105,13 +106,13 @@ fn tail_fits(numbers: &[u32], cells: usize) -> bool
 // How many cells the sample has.
 fn sample_cells(numbers: &[u32]) -> usize
     requires { ⌜ headFits (now numbers) ≡ true ⌝ }
-    ensures { λ r. ⌜ r ≡ sampleCells (now (numbers .entry)) ⌝ }
+    ensures { λ r. ⌜ r ≡ sampleCells (before numbers) ⌝ }
 {
     wide(number(numbers, 0)) * wide(number(numbers, 1))
 }
 
 fn is_formed(numbers: &[u32]) -> bool
-    ensures { λ r. ⌜ r ≡ isFormed (now (numbers .entry)) ⌝ }
+    ensures { λ r. ⌜ r ≡ isFormed (before numbers) ⌝ }
 {
     if head_fits(numbers) {
         tail_fits(numbers, sample_cells(numbers))
@@ -131,7 +132,7 @@ fn sides(rows: u32, cols: u32) -> Sides
 
 fn setup_of(numbers: &[u32]) -> Setup
     requires { ⌜ headFits (now numbers) ≡ true ⌝ }
-    ensures { λ r. ⌜ r ≡ setupOf (now (numbers .entry)) ⌝ }
+    ensures { λ r. ⌜ r ≡ setupOf (before numbers) ⌝ }
 {
     let cells = sample_cells(numbers);
     let sample = sides(number(numbers, 0), number(numbers, 1));
@@ -147,7 +148,7 @@ fn setup_of(numbers: &[u32]) -> Setup
 
 // The job that the numbers make, if they are of its form.
 pub fn form_of(numbers: &[u32]) -> Form
-    ensures { λ r. ⌜ r ≡ formOf (now (numbers .entry)) ⌝ }
+    ensures { λ r. ⌜ r ≡ formOf (before numbers) ⌝ }
 {
     if is_formed(numbers) {
         return Form::Whole(setup_of(numbers));

@@ -3,7 +3,7 @@
 -- Assumes nothing.
 use Prim.Native.Nat.{ℕ, zero, suc, _+_, _*_, _%_, _<_, _≤_, min}
 use mathlib.Core.Path.{_≡_, refl, sym, _∙_, ap}
-use mathlib.Core.Bool.{Bool, true, false}
+use mathlib.Core.Bool.{Bool, true}
 use mathlib.Core.List.{List, _++_}
 use native.Mathlib.Omega.{arith}
 use lib.Dec.{leb, eqb}
@@ -11,16 +11,16 @@ use lib.ListN.{length, getD, take, drop, length-take, length-drop}
 use lib.Seq.{take-all, take-at, getD-take, getD-drop, ext-getD}
 use borrow.Author.Tests.{le-leb, leb-true, eq-eqb}
 use Rattle.base.specs.Counting.{every, within}
-use Rattle.base.specs.Refusal.{Checks, accepted, _unless_or_, refusal, unlessRefused, Gives}
-use Rattle.base.proofs.Bools.{and-both, same-test}
+use Rattle.base.specs.Refusal.{Checks, _then_, orElse, refusal, unlessRefused}
+use Rattle.base.proofs.Bools.{and-both, same-test, by-test}
 use Rattle.base.proofs.Numbers.{mul-le, within-is}
 use Rattle.base.proofs.Counted.{every-ext}
 use Rattle.base.proofs.Tabled.{length-tab, getD-tab}
-use Rattle.base.proofs.Chain.{passed, pass-by}
-use Rattle.rules.specs.Bounds.{SHAPE, LENGTH, COUNT, CELL}
-use Rattle.rules.specs.Tests.{sampleSides, hasLength, tilesIn, tileNumber, wholeTiles, colourCount, entryUpTo, noneAbove}
+use Rattle.base.proofs.Chain.{all-pass, none-fails}
+use Rattle.rules.specs.Tests.{hasLength, tilesIn, tileNumber, wholeTiles, colourCount, entryUpTo, noneAbove}
 use Rattle.rules.specs.Answers.{tileAnswer}
 use Rattle.rules.specs.Tiles.{startsAlong, forms, variants, variant, distinct, extracted, storeWith, sampleChecks, roomCheck, extraction, storeAfter}
+use Rattle.rules.specs.Promises.{Extracts}
 use Rattle.rules.specs.declared.TileNumber.{TileNumber}
 use Rattle.rules.specs.declared.TileNumber.the-variants as TileNumber·
 use Rattle.checks.proofs.Sides.{count-most, none-above}
@@ -77,25 +77,14 @@ module _ (sample : List ℕ) (rows cols : ℕ) (rotations reflections : Bool) (t
       (eq-eqb (length tiles % 9) 0 (omega (arith, w .0))) (within-is 1 7200 (tilesIn tiles) (w .1) (omega (arith, w .2)))
 
 -- ---- refusals
--- what follows a chain may be put for what refuses the same
-more-same : (n : ℕ) (b : Bool) (x y : Checks) → refusal x ≡ refusal y → refusal (n unless b or x) ≡ refusal (n unless b or y)
+or-nothing : (n : ℕ) → orElse n 0 ≡ n
+or-nothing zero = refl
+or-nothing (suc n) = refl
+
+-- checks that pass add nothing to those before them
+nothing-more : (cs ds : Checks) → refusal ds ≡ 0 → refusal (cs then ds) ≡ refusal cs
 unfolding refusal
-more-same n true x y e = e
-more-same n false x y e = refl
-
-sample-same : (s : List ℕ) (rows cols count : ℕ) (x y : Checks) → refusal x ≡ refusal y → refusal (sampleChecks s rows cols count x) ≡ refusal (sampleChecks s rows cols count y)
-sample-same s rows cols count x y e =
-    more-same SHAPE (sampleSides rows cols) _ _
-    (more-same LENGTH (hasLength s (rows * cols)) _ _ (more-same COUNT (colourCount count) _ _ (more-same CELL (noneAbove s count) x y e)))
-
--- a test may be put for one that is equal where those before it pass
-test-same : (n : ℕ) (a b : Bool) (x : Checks) → a ≡ b → refusal (n unless a or x) ≡ refusal (n unless b or x)
-test-same n a b x e = ap (λ (t : Bool). refusal (n unless t or x)) e
-
-after-test : (n : ℕ) (b : Bool) (x y : Checks) → (b ≡ true → refusal x ≡ refusal y) → refusal (n unless b or x) ≡ refusal (n unless b or y)
-unfolding refusal
-after-test n true x y e = e refl
-after-test n false x y e = refl
+nothing-more cs ds e = ap (orElse (refusal cs)) e ∙ or-nothing (refusal cs)
 
 -- ---- the sample as bytes
 module _ (ns : List ℕ) (cells : ℕ) (long : 5 + cells ≤ length ns) where
@@ -134,24 +123,23 @@ module _ (ns : List ℕ) (cells : ℕ) (long : 5 + cells ≤ length ns) where
   unfolding hasLength
   same-length n = ap (λ (m : ℕ). eqb m n) (length-clipped ∙ sym length-numbered)
 
-  pub same-refusal : (rows cols count : ℕ) (x : Checks) → refusal (sampleChecks (clipped ns cells) rows cols count x) ≡ refusal (sampleChecks numbered rows cols count x)
-  same-refusal rows cols count x =
-      more-same SHAPE (sampleSides rows cols) _ _
-      (test-same LENGTH _ _ _ (same-length (rows * cols))
-      ∙ more-same LENGTH (hasLength numbered (rows * cols)) _ _
-      (after-test COUNT (colourCount count) _ _ (λ t. test-same CELL _ _ x (same-cells count (count-most count t)))))
+  pub same-refusal : (rows cols count : ℕ) → refusal (sampleChecks (clipped ns cells) rows cols count) ≡ refusal (sampleChecks numbered rows cols count)
+  unfolding refusal
+  same-refusal rows cols count =
+      by-test (colourCount count)
+      (λ t. rw (same-length (rows * cols), same-cells count (count-most count t)))
+      (λ t. rw (same-length (rows * cols), t))
 
-  pub same-sample : (rows cols count : ℕ) → refusal (sampleChecks numbered rows cols count accepted) ≡ 0 → clipped ns cells ≡ numbered
+  pub same-sample : (rows cols count : ℕ) → refusal (sampleChecks numbered rows cols count) ≡ 0 → clipped ns cells ≡ numbered
   same-sample rows cols count e =
-      let a = passed 0 (sampleSides rows cols) _ e .1 in
-      let b = passed 1 (hasLength numbered (rows * cols)) _ a .1 in
-      let c = passed 2 (colourCount count) _ b in
-      let d = passed 3 (noneAbove numbered count) _ (c .1) .0 in
+      let h = all-pass (sampleChecks numbered rows cols count) refl e in
+      let few : colourCount count ≡ true = search in
+      let below : noneAbove numbered count ≡ true = search in
       ext-getD 0 (clipped ns cells) numbered (length-clipped ∙ sym length-numbered)
       (λ k l.
       let h : k < cells = omega (arith, length-clipped) in
-      let most : getD numbered k 0 ≤ count = none-above numbered count d k (omega (arith, length-numbered)) in
-      clipped-at k h ∙ omega (arith, count-most count (c .0)))
+      let most : getD numbered k 0 ≤ count = none-above numbered count below k (omega (arith, length-numbered)) in
+      clipped-at k h ∙ omega (arith, count-most count few))
 
 -- ---- what extraction answers, for a store of 14,112 bytes
 answer-refused : (m v n : ℕ) → tileAnswer m v ≡ TileNumber·.Refused n → (m ≡ n) × (n ≡ 0 → ⊥)
@@ -176,28 +164,28 @@ module _ (ns : List ℕ) (rows cols count : ℕ) (rotations reflections : Bool) 
   made-few : length made ≤ 14112
   made-few = let w = tiles-counted bytes rows cols rotations reflections tall broad in omega (arith, w .0, w .2)
 
-  has-room : refusal (roomCheck made d) ≡ refusal accepted
+  has-room : refusal (roomCheck made d) ≡ 0
   has-room =
       let w = tiles-counted bytes rows cols rotations reflections tall broad in
-      sym (pass-by {m = refusal accepted} _ (leb (tilesIn made) (tilesIn d)) accepted (le-leb (tilesIn made) (tilesIn d) (omega (arith, w .2, room))) refl)
+      none-fails (roomCheck made d) (le-leb (tilesIn made) (tilesIn d) (omega (arith, w .2, room)))
 
-  pub extraction-is : extraction bytes rows cols count rotations reflections d ≡ tileAnswer (refusal (sampleChecks cells rows cols count accepted)) (tilesIn made)
+  pub extraction-is : extraction bytes rows cols count rotations reflections d ≡ tileAnswer (refusal (sampleChecks cells rows cols count)) (tilesIn made)
   unfolding extraction
   extraction-is =
       ap (λ (n : ℕ). tileAnswer n (tilesIn made))
-      (sample-same bytes rows cols count (roomCheck made d) accepted has-room ∙ same-refusal ns (rows * cols) long rows cols count accepted)
+      (nothing-more (sampleChecks bytes rows cols count) (roomCheck made d) has-room ∙ same-refusal ns (rows * cols) long rows cols count)
 
-  module _ (a : TileNumber) (x : List ℕ) (g : Gives (extraction bytes rows cols count rotations reflections d) (storeAfter bytes rows cols count rotations reflections d) a x) where
-    pub told-refused : (n : ℕ) → a ≡ TileNumber·.Refused n → (refusal (sampleChecks cells rows cols count accepted) ≡ n) × (n ≡ 0 → ⊥)
-    told-refused n e = answer-refused (refusal (sampleChecks cells rows cols count accepted)) (tilesIn made) n (sym extraction-is ∙ sym (g .answered) ∙ e)
+  module _ (a : TileNumber) (x : List ℕ) (g : Extracts bytes rows cols count rotations reflections d a x) where
+    pub told-refused : (n : ℕ) → a ≡ TileNumber·.Refused n → (refusal (sampleChecks cells rows cols count) ≡ n) × (n ≡ 0 → ⊥)
+    told-refused n e = answer-refused (refusal (sampleChecks cells rows cols count)) (tilesIn made) n (sym extraction-is ∙ sym (g .answered) ∙ e)
 
     module _ (n : ℕ) (e : a ≡ TileNumber·.Tiles n) where
-      pub told-accepted : refusal (sampleChecks cells rows cols count accepted) ≡ 0
-      told-accepted = answer-tiles (refusal (sampleChecks cells rows cols count accepted)) (tilesIn made) n (sym extraction-is ∙ sym (g .answered) ∙ e) .0
+      pub told-accepted : refusal (sampleChecks cells rows cols count) ≡ 0
+      told-accepted = answer-tiles (refusal (sampleChecks cells rows cols count)) (tilesIn made) n (sym extraction-is ∙ sym (g .answered) ∙ e) .0
 
       told-number : n * 9 ≡ length made
       told-number =
-          let q = answer-tiles (refusal (sampleChecks cells rows cols count accepted)) (tilesIn made) n (sym extraction-is ∙ sym (g .answered) ∙ e) .1 in
+          let q = answer-tiles (refusal (sampleChecks cells rows cols count)) (tilesIn made) n (sym extraction-is ∙ sym (g .answered) ∙ e) .1 in
           omega (arith, q, tiles-counted bytes rows cols rotations reflections tall broad .0)
 
       pub told-few : n * 9 ≤ 14112
@@ -206,7 +194,7 @@ module _ (ns : List ℕ) (rows cols count : ℕ) (rotations reflections : Bool) 
       pub told-tiles : take (n * 9) x ≡ extracted cells rows cols rotations reflections
       unfolding storeAfter storeWith
       told-tiles =
-          let z : refusal (sampleChecks bytes rows cols count accepted) ≡ 0 = same-refusal ns (rows * cols) long rows cols count accepted ∙ told-accepted in
+          let z : refusal (sampleChecks bytes rows cols count) ≡ 0 = same-refusal ns (rows * cols) long rows cols count ∙ told-accepted in
           let k : take (tilesIn d * 9) made ≡ made = take-all (tilesIn d * 9) made (omega (arith, room, made-few)) in
           ap (take (n * 9))
           (g .leaves ∙ ap (λ (m : ℕ). unlessRefused m (take (tilesIn d * 9) made ++ drop (length (take (tilesIn d * 9) made)) d) d) z

@@ -11,20 +11,21 @@ use lib.Seq.{take-at, length-take-le}
 use borrow.Author.Tests.{leb-true, le-leb, eq-eqb}
 use Rattle.io.specs.Counts.{Counts}
 use Rattle.base.specs.Counting.{pick, within}
-use Rattle.base.specs.Refusal.{accepted, refusal, Gives}
+use Rattle.base.specs.Refusal.{refusal}
 use Rattle.base.proofs.Bools.{and-left, and-right, and-both, pick-yes, pick-no}
 use Rattle.base.proofs.Numbers.{mul-le, within-low, within-high, within-is}
-use Rattle.base.proofs.Chain.{pass-by, no-check, has-new}
-use Rattle.rules.specs.Bounds.{SHAPE, LENGTH}
-use Rattle.rules.specs.Tests.{boardSides, hasLength, tilesIn, wholeTiles, tileNumber}
-use Rattle.rules.specs.Tiles.{extracted, sampleChecks, extraction, storeAfter}
-use Rattle.rules.specs.Board.{Job, Board, freshBoard, freshChecks, afterFresh}
+use Rattle.base.proofs.Chain.{Passes, none-fails, has-new}
+use Rattle.rules.specs.Tests.{boardSides, hasLength, tilesIn, wholeTiles}
+use Rattle.rules.specs.Tiles.{extracted, sampleChecks}
+use Rattle.rules.specs.Board.{Panel, Board, freshChecks}
+use Rattle.rules.specs.Promises.{Freshens, Extracts}
+use Rattle.rules.specs.declared.Written.{Written}
 use Rattle.rules.specs.declared.TileNumber.{TileNumber}
 use Rattle.rules.specs.declared.TileNumber.the-variants as TileNumber·
 use Rattle.checks.proofs.Sides.{whole-number}
-use Rattle.words.specs.Words.{Text, bad, numbers, parsedInto, over, numbersStored}
+use Rattle.words.specs.Words.{Text, bad, numbers, parsedInto, over, numbersStored, Parses}
 use Rattle.words.specs.Input.{inputText}
-use Rattle.jobs.specs.Form.{Step, stepsIn, listOf, isWhole, maxSample, maxBoard, sidesUpTo, headFits, sampleCells, tailFits, isFormed, setupOf, sampleIn, stepNumbers, formOf}
+use Rattle.jobs.specs.Form.{Step, stepsIn, isWhole, maxSample, maxBoard, sidesUpTo, headFits, sampleCells, tailFits, isFormed, setupOf, sampleIn, stepNumbers, formOf}
 use Rattle.words.specs.declared.Parsed.{Parsed}
 use Rattle.words.specs.declared.Parsed.the-variants as Parsed·
 use Rattle.jobs.specs.declared.Form.{Form}
@@ -35,9 +36,9 @@ use Rattle.words.proofs.Meaning.{input-few, input-small}
 use Rattle.lines.specs.Pages.{placeAfter, Writes}
 use Rattle.lines.proofs.Written.{length-page, writes-then, writes-as}
 use Rattle.stepping.specs.Steps.{answersText, boardIn}
-use Rattle.lister.specs.Printed.{badLine, runText, freshFor, unlessNumber, setupRefusal, tilesOf, jobText, numbersText, textFor, printed}
-use Rattle.ending.specs.Ending.{refusedLine, endText, jobWith}
-use Rattle.stepping.specs.Walks.{Small, Walks, Ran}
+use Rattle.lister.specs.Printed.{badLine, runText, freshFor, freshRun, unlessNumber, setupRefusal, tilesOf, jobText, numbersText, textFor, printed}
+use Rattle.ending.specs.Ending.{refusedLine, endText}
+use Rattle.stepping.specs.Walks.{Small, Walks, stepsFrom, Ran}
 use Rattle.lister.specs.Runs.{Planes, Formed, clipped}
 use Rattle.lister.proofs.Setting.{told-refused, told-accepted, told-few, told-tiles, tiles-whole}
 
@@ -46,23 +47,25 @@ has-length : {A : Type 0} (l : List A) (n : ℕ) → length l ≡ n → hasLengt
 unfolding hasLength
 has-length l n e = eq-eqb (length l) n e
 
-fresh-is : (j : Job) (b : Board) → Planes j b → afterFresh (j .rows) (j .cols) (tilesIn (j .tiles)) b ≡ freshFor j
-unfolding afterFresh freshFor
-fresh-is j b p =
-    has-new (refusal (freshChecks (j .rows) (j .cols) (tilesIn (j .tiles)) b)) (freshBoard (j .rows * j .cols) (tilesIn (j .tiles))) b
-    (sym
-    (pass-by SHAPE (boardSides (j .rows) (j .cols)) _ (p .sides)
-    (pass-by LENGTH (hasLength (b .pieces) (j .rows * j .cols)) _ (has-length (b .pieces) _ (p .pieces))
-    (pass-by LENGTH (hasLength (b .weights) (j .rows * j .cols)) _ (has-length (b .weights) _ (p .weights))
-    (pass-by LENGTH (hasLength (b .counts) (j .rows * j .cols)) _ (has-length (b .counts) _ (p .counts))
-    (pass-by LENGTH (tileNumber (tilesIn (j .tiles))) accepted (whole-number (j .tiles) (p .tiles)) no-check))))))
+fresh-passes : (j : Panel) (b : Board) → Planes j b → refusal (freshChecks (j .rows) (j .cols) (tilesIn (j .tiles)) b) ≡ 0
+fresh-passes j b p =
+    let cells : ℕ = j .rows * j .cols in
+    let sides = p .sides in
+    let pieces = has-length (b .pieces) cells (p .pieces) in
+    let weights = has-length (b .weights) cells (p .weights) in
+    let counts = has-length (b .counts) cells (p .counts) in
+    let few = whole-number (j .tiles) (p .tiles) in
+    let y : Passes (freshChecks (j .rows) (j .cols) (tilesIn (j .tiles)) b) = search in
+    none-fails _ y
 
-pub ran-fresh : {p r : ℕ} {x y z : List ℕ} {c₀ c : Board} (j : Job) (b : Board) (l : List Step) → Planes j b → c₀ ≡ afterFresh (j .rows) (j .cols) (tilesIn (j .tiles)) b
-    → Ran j c₀ l 0 x p c y → Writes (endText j c) p y r z → Writes (runText j (freshFor j) l) 0 x r z
-unfolding runText
-ran-fresh j b l p e w f =
-    let q = e ∙ fresh-is j b p in
-    writes-as (ap (λ (d : Board). answersText j d l ++ endText j (boardIn j d l)) q) (writes-then (w .writes) (writes-as (ap (endText j) (w .leaves)) f))
+pub ran-fresh : {a : Written} {p r : ℕ} {x y z : List ℕ} {c₀ c : Board} (j : Panel) (count : ℕ) (b : Board) (l : List Step) → Planes j b
+    → Freshens (j .rows) (j .cols) (tilesIn (j .tiles)) b a c₀ → Ran j count c₀ l 0 x p c y → Writes (endText j count c) p y r z
+    → Writes (runText j count (freshFor j) l) 0 x r z
+unfolding runText freshFor
+ran-fresh j count b l p e w f =
+    let q = e .leaves ∙ has-new _ _ b (fresh-passes j b p) in
+    writes-as (ap (λ (d : Board). answersText j count d l ++ endText j count (boardIn j count d l)) q)
+    (writes-then (w .writes) (writes-as (ap (endText j count) (w .leaves)) f))
 
 -- ---- what the form gives
 pub board-few : (rows cols : ℕ) → sidesUpTo maxBoard rows cols ≡ true → rows * cols ≤ 1024
@@ -129,14 +132,14 @@ module _ (ns : List ℕ) (s : Setup) (f : Formed ns s) where
 
   -- ---- a job
   module _ (bytes d : List ℕ) (a : TileNumber) (x : List ℕ) (are : bytes ≡ clipped ns (s .sample .rows * s .sample .cols)) (room : length d ≡ 14112)
-      (g : Gives (extraction bytes (s .sample .rows) (s .sample .cols) (s .count) (s .rotations) (s .reflections) d) (storeAfter bytes (s .sample .rows) (s .sample .cols) (s .count) (s .rotations) (s .reflections) d) a x) where
-    given : Gives (extraction (clipped ns (s .sample .rows * s .sample .cols)) (s .sample .rows) (s .sample .cols) (s .count) (s .rotations) (s .reflections) d) (storeAfter (clipped ns (s .sample .rows * s .sample .cols)) (s .sample .rows) (s .sample .cols) (s .count) (s .rotations) (s .reflections) d) a x
-    given = subst (λ (l : List ℕ). Gives (extraction l (s .sample .rows) (s .sample .cols) (s .count) (s .rotations) (s .reflections) d) (storeAfter l (s .sample .rows) (s .sample .cols) (s .count) (s .rotations) (s .reflections) d) a x) are g
+      (g : Extracts bytes (s .sample .rows) (s .sample .cols) (s .count) (s .rotations) (s .reflections) d a x) where
+    given : Extracts (clipped ns (s .sample .rows * s .sample .cols)) (s .sample .rows) (s .sample .cols) (s .count) (s .rotations) (s .reflections) d a x
+    given = subst (λ (l : List ℕ). Extracts l (s .sample .rows) (s .sample .cols) (s .count) (s .rotations) (s .reflections) d a x) are g
 
     -- the refusal of the set-up, over the sample as the form counts its cells
-    same-setup : refusal (sampleChecks (take (s .sample .rows * s .sample .cols) (drop 5 ns)) (s .sample .rows) (s .sample .cols) (s .count) accepted) ≡ setupRefusal ns s
+    same-setup : refusal (sampleChecks (take (s .sample .rows * s .sample .cols) (drop 5 ns)) (s .sample .rows) (s .sample .cols) (s .count)) ≡ setupRefusal ns s
     unfolding sampleIn
-    same-setup = ap (λ (n : ℕ). refusal (sampleChecks (take n (drop 5 ns)) (s .sample .rows) (s .sample .cols) (s .count) accepted)) cells-is
+    same-setup = ap (λ (n : ℕ). refusal (sampleChecks (take n (drop 5 ns)) (s .sample .rows) (s .sample .cols) (s .count))) cells-is
 
     pub job-refused : (n : ℕ) → a ≡ TileNumber·.Refused n → refusedLine n ≡ jobText ns s
     unfolding jobText
@@ -165,16 +168,16 @@ module _ (ns : List ℕ) (s : Setup) (f : Formed ns s) where
           ap wholeTiles tiles-are ∙ tiles-whole (sampleIn ns) (s .sample .rows) (s .sample .cols) (s .rotations) (s .reflections) tall broad
 
       pub job-done : {r : ℕ} {y z : List ℕ}
-          → Writes (runText (jobWith s (take (n * 9) x)) (freshFor (jobWith s (take (n * 9) x))) (listOf (stepsIn (drop (s .sample .rows * s .sample .cols + 7) ns)))) 0 y r z
+          → Writes (freshRun s (take (n * 9) x) (stepsFrom ns (s .sample .rows * s .sample .cols + 7))) 0 y r z
           → Writes (jobText ns s) 0 y r z
       unfolding jobText stepNumbers
       job-done w =
           let q : setupRefusal ns s ≡ 0 =
           sym same-setup ∙ told-accepted ns (s .sample .rows) (s .sample .cols) (s .count) (s .rotations) (s .reflections) d tall broad long room a x given n e in
           writes-as
-          (ap (λ (t : List ℕ). runText (jobWith s t) (freshFor (jobWith s t)) (listOf (stepsIn (drop (s .sample .rows * s .sample .cols + 7) ns)))) tiles-are
-          ∙ ap (λ (k : ℕ). runText (jobWith s (tilesOf ns s)) (freshFor (jobWith s (tilesOf ns s))) (listOf (stepsIn (drop (k + 7) ns)))) cells-is
-          ∙ ap (λ (m : ℕ). unlessNumber m (runText (jobWith s (tilesOf ns s)) (freshFor (jobWith s (tilesOf ns s))) (listOf (stepsIn (drop (sampleCells ns + 7) ns))))) (sym q))
+          (ap (λ (t : List ℕ). freshRun s t (stepsFrom ns (s .sample .rows * s .sample .cols + 7))) tiles-are
+          ∙ ap (λ (k : ℕ). freshRun s (tilesOf ns s) (stepsFrom ns (k + 7))) cells-is
+          ∙ ap (λ (m : ℕ). unlessNumber m (freshRun s (tilesOf ns s) (stepsFrom ns (sampleCells ns + 7)))) (sym q))
           w
 
 -- ---- numbers
@@ -225,7 +228,7 @@ never-full room (numbers ns) h e =
     let q : Parsed·.Numbers (length ns) ≡ Parsed·.Full = sym (pick-yes (leb (length ns) room) (Parsed·.Numbers (length ns)) Parsed·.Full (le-leb (length ns) room (h ns refl))) ∙ e in
     let z : _≡_ {A = ℕ} 0 1 = cc in omega arith
 
-module _ (input d : List ℕ) (a : Parsed) (x : List ℕ) (room : length d ≡ 8192) (g : Gives (parsedInto (length d) (inputText input)) (numbersStored (inputText input) d) a x) where
+module _ (input d : List ℕ) (a : Parsed) (x : List ℕ) (room : length d ≡ 8192) (g : Parses (inputText input) d a x) where
   module _ (n : ℕ) (e : a ≡ Parsed·.Numbers n) where
     found : (ns : List ℕ) × (inputText input ≡ numbers ns) × (n ≡ length ns) × (n ≤ length d)
     found = parsed-numbers (length d) (inputText input) n (sym (g .answered) ∙ e)

@@ -12,11 +12,10 @@ use lib.Seq.{take-at}
 use Rattle.base.specs.Tables.{fold}
 use Rattle.base.specs.Refusal.{refusal, unlessRefused}
 use Rattle.base.proofs.Bools.{and-left, and-right, by-test}
-use Rattle.base.proofs.Numbers.{mul-le, within-high}
 use Rattle.base.proofs.Tabled.{length-tab}
 use Rattle.rules.specs.Bounds.{bare}
 use Rattle.rules.specs.Forced.{deadEnd}
-use Rattle.rules.specs.Board.{Job, Board, raised, lowered, recounted, laid, lifted, freshBoard, layChecks, afterLay, liftChecks, afterLift}
+use Rattle.rules.specs.Board.{Panel, Board, raised, lowered, recounted, laid, lifted, freshBoard, layChecks, afterLay, liftChecks, afterLift}
 use Rattle.rules.specs.declared.Cell.{Cell}
 use Rattle.rules.specs.declared.DeadEnd.{DeadEnd}
 use Rattle.rules.specs.declared.DeadEnd.the-variants as DeadEnd·
@@ -26,14 +25,15 @@ use Rattle.jobs.specs.Form.{Step, lay, lift, Steps, misformed, steps, stepsIn, 
 use Rattle.jobs.specs.declared.Setup.{Setup}
 use Rattle.words.proofs.Meaning.{input-few}
 use Rattle.jobs.proofs.Meaning.{spelled, steps-are}
-use Rattle.jobs.proofs.Forming.{formed-tail, sides-up}
+use Rattle.jobs.proofs.Forming.{formed-tail}
 use Rattle.lines.specs.Lines.{numberLine}
 use Rattle.lines.specs.Pages.{Writes}
 use Rattle.lines.proofs.Texts.{decimal-length, line-length, plane-length}
 use Rattle.lines.proofs.Written.{writes-all}
-use Rattle.stepping.specs.Steps.{answerTo, boardAfter, answersText, boardIn}
-use Rattle.ending.specs.Ending.{refusedLine, planesText, deadEndText, scanText, endText, jobWith}
+use Rattle.stepping.specs.Steps.{answerTo, boardPast, answersText, boardIn}
+use Rattle.ending.specs.Ending.{refusedLine, planesText, deadEndText, scanText, endText, panelWith}
 use Rattle.lister.specs.Printed.{runText, freshFor, unlessNumber, setupRefusal, tilesOf, jobText, numbersText, textFor, printed}
+use Rattle.lister.proofs.Telling.{board-few}
 
 -- ---- planes keep their lengths
 pub record Sized (n : ℕ) (b : Board) : Type 0 where
@@ -46,23 +46,23 @@ either : (P : Board → Type 0) (n : ℕ) (new old : Board) → P new → P old 
 either P zero new old p q = p
 either P (suc n) new old p q = q
 
-step-sized : (j : Job) (n : ℕ) (b : Board) (s : Step) → Sized n b → Sized n (boardAfter j b s)
-unfolding boardAfter afterLay afterLift laid lifted raised lowered recounted
-step-sized j n b (lay row col colour) h =
-    either (Sized n) (refusal (layChecks j b _ colour)) _ b
+step-sized : (j : Panel) (count n : ℕ) (b : Board) (s : Step) → Sized n b → Sized n (boardPast j count b s)
+unfolding boardPast afterLay afterLift laid lifted raised lowered recounted
+step-sized j count n b (lay row col colour) h =
+    either (Sized n) (refusal (layChecks j count b _ colour)) _ b
     (record { pieces = length-set (b .pieces) _ (colour + 1) ∙ h .pieces; weights = length-tab (length (b .weights)) _ ∙ h .weights; counts = length-tab (length (b .counts)) _ ∙ h .counts })
     h
-step-sized j n b (lift row col) h =
-    either (Sized n) (refusal (liftChecks j b _)) _ b
+step-sized j count n b (lift row col) h =
+    either (Sized n) (refusal (liftChecks j count b _)) _ b
     (record { pieces = length-set (b .pieces) _ bare ∙ h .pieces; weights = length-tab (length (b .weights)) _ ∙ h .weights; counts = length-tab (length (b .counts)) _ ∙ h .counts })
     h
 
-run-sized : (j : Job) (n : ℕ) (b : Board) (l : List Step) → Sized n b → Sized n (boardIn j b l)
+run-sized : (j : Panel) (count n : ℕ) (b : Board) (l : List Step) → Sized n b → Sized n (boardIn j count b l)
 unfolding boardIn fold
-run-sized j n b [] h = h
-run-sized j n b (s ∷ l) h = run-sized j n (boardAfter j b s) l (step-sized j n b s h)
+run-sized j count n b [] h = h
+run-sized j count n b (s ∷ l) h = run-sized j count n (boardPast j count b s) l (step-sized j count n b s h)
 
-pub fresh-sized : (j : Job) → Sized (j .rows * j .cols) (freshFor j)
+pub fresh-sized : (j : Panel) → Sized (j .rows * j .cols) (freshFor j)
 unfolding freshFor freshBoard
 fresh-sized j =
     record { pieces = length-tab (j .rows * j .cols) _; weights = length-tab (j .rows * j .cols) _; counts = length-tab (j .rows * j .cols) _ }
@@ -81,11 +81,11 @@ steps-few ns = go (stepsIn ns) refl
     go misformed e = omega arith
     go (steps l) e = omega (arith, spelled-length l, ap length (steps-are ns l e))
 
-answers-length : (j : Job) (b : Board) (l : List Step) → length (answersText j b l) ≤ length l * 11
+answers-length : (j : Panel) (count : ℕ) (b : Board) (l : List Step) → length (answersText j count b l) ≤ length l * 11
 unfolding answersText
-answers-length j b [] = omega arith
-answers-length j b (s ∷ l) =
-    omega (arith, length-append (numberLine (answerTo j b s)) (answersText j (boardAfter j b s) l), line-length (answerTo j b s), answers-length j (boardAfter j b s) l)
+answers-length j count b [] = omega arith
+answers-length j count b (s ∷ l) =
+    omega (arith, length-append (numberLine (answerTo j count b s)) (answersText j count (boardPast j count b s) l), line-length (answerTo j count b s), answers-length j count (boardPast j count b s) l)
 
 -- ---- the planes and the scan
 refused-length : (n : ℕ) → length (refusedLine n) ≤ 19
@@ -108,17 +108,17 @@ planes-length n b cols h =
     simp length-append
     (omega (arith, plane-length bare (b .pieces) cols, plane-length 0 (b .weights) cols, plane-length 0 (b .counts) cols, h .pieces, h .weights, h .counts))
 
-run-length : (j : Job) (n : ℕ) (b : Board) (l : List Step) → Sized n b → length (runText j b l) ≤ length l * 11 + (51 + n * 33)
+run-length : (j : Panel) (count n : ℕ) (b : Board) (l : List Step) → Sized n b → length (runText j count b l) ≤ length l * 11 + (51 + n * 33)
 unfolding runText endText
-run-length j n b l h =
-    let c : Board = boardIn j b l in
-    let d : DeadEnd = deadEnd (c .pieces) (c .weights) (j .rows) (j .cols) (j .tiles) (j .count) in
+run-length j count n b l h =
+    let c : Board = boardIn j count b l in
+    let d : DeadEnd = deadEnd (j .kind) (c .pieces) (c .weights) (j .rows) (j .cols) (j .tiles) count in
     omega (
       arith,
-      length-append (answersText j b l) (planesText c (j .cols) ++ scanText d),
+      length-append (answersText j count b l) (planesText c (j .cols) ++ scanText d),
       length-append (planesText c (j .cols)) (scanText d),
-      answers-length j b l,
-      planes-length n c (j .cols) (run-sized j n b l h),
+      answers-length j count b l,
+      planes-length n c (j .cols) (run-sized j count n b l h),
       scan-length d,
     )
 
@@ -130,25 +130,23 @@ formed-board ns t =
     (and-right (leb (sampleCells ns + 7) (length ns)) _ (formed-tail ns t))
 
 job-length : (ns : List ℕ) (s : Setup) → length ns ≤ 8192 → sidesUpTo maxBoard (s .board .rows) (s .board .cols) ≡ true → length (jobText ns s) ≤ 65536
-unfolding jobText jobWith stepNumbers
+unfolding jobText panelWith stepNumbers
 job-length ns s h t = go (setupRefusal ns s)
   where
-    j : Job
-    j = jobWith s (tilesOf ns s)
+    j : Panel
+    j = panelWith s (tilesOf ns s)
 
     rest : List ℕ
     rest = drop (sampleCells ns + 7) ns
 
     few : j .rows * j .cols ≤ 1024
-    few =
-        let w = sides-up maxBoard (s .board .rows) (s .board .cols) t in
-        mul-le {a = s .board .rows} {b = s .board .cols} {m = 32} {n = 32} (within-high 1 maxBoard (s .board .rows) (w .0)) (within-high 1 maxBoard (s .board .cols) (w .1))
+    few = board-few (s .board .rows) (s .board .cols) t
 
-    go : (n : ℕ) → length (unlessNumber n (runText j (freshFor j) (listOf (stepsIn rest)))) ≤ 65536
+    go : (n : ℕ) → length (unlessNumber n (runText j (s .count) (freshFor j) (listOf (stepsIn rest)))) ≤ 65536
     go zero =
         omega (
           arith,
-          run-length j (j .rows * j .cols) (freshFor j) (listOf (stepsIn rest)) (fresh-sized j),
+          run-length j (s .count) (j .rows * j .cols) (freshFor j) (listOf (stepsIn rest)) (fresh-sized j),
           steps-few rest,
           length-drop (sampleCells ns + 7) ns,
           few,

@@ -3,15 +3,15 @@
 use Prim.Native.Nat.{ℕ, zero, suc, _*_}
 use mathlib.Core.List.{List, [], _∷_, _++_}
 use Rattle.base.specs.Counting.{pick}
-use Rattle.base.specs.Refusal.{accepted, refusal}
+use Rattle.base.specs.Refusal.{refusal}
 use Rattle.rules.specs.Tests.{tilesIn}
 use Rattle.rules.specs.Tiles.{sampleChecks, extracted}
-use Rattle.rules.specs.Board.{Job, Board, freshBoard}
+use Rattle.rules.specs.Board.{Panel, Board, freshBoard}
 use Rattle.words.specs.Words.{Text, bad, numbers}
 use Rattle.words.specs.Input.{inputText}
 use Rattle.jobs.specs.Form.{Step, isFormed, setupOf, sampleIn, stepNumbers, stepsIn, listOf}
 use Rattle.jobs.specs.declared.Setup.{Setup}
-use Rattle.ending.specs.Ending.{refusedLine, jobWith, endText}
+use Rattle.ending.specs.Ending.{refusedLine, panelWith, endText}
 use Rattle.stepping.specs.Steps.{answersText, boardIn}
 
 -- `bad input`, on a line of its own
@@ -23,11 +23,15 @@ unfoldable pub tilesOf : List ℕ → Setup → List ℕ
 tilesOf ns s = extracted (sampleIn ns) (s .sample .rows) (s .sample .cols) (s .rotations) (s .reflections)
 
 -- a job's steps on a board, then its planes and the scan
-unfoldable pub runText : Job → Board → List Step → List ℕ
-runText j b l = answersText j b l ++ endText j (boardIn j b l)
+unfoldable pub runText : Panel → ℕ → Board → List Step → List ℕ
+runText j count b l = answersText j count b l ++ endText j count (boardIn j count b l)
 
-unfoldable pub freshFor : Job → Board
+unfoldable pub freshFor : Panel → Board
 freshFor j = freshBoard (j .rows * j .cols) (tilesIn (j .tiles))
+
+-- what a job prints from a fresh board on, by its set-up and its tiles
+abbrev pub freshRun : Setup → List ℕ → List Step → List ℕ
+freshRun s tiles l = runText (panelWith s tiles) (s .count) (freshFor (panelWith s tiles)) l
 
 -- a refused set-up prints only its refusal
 abbrev pub unlessNumber : ℕ → List ℕ → List ℕ
@@ -35,12 +39,10 @@ unlessNumber zero text = text
 unlessNumber (suc n) text = refusedLine (suc n)
 
 abbrev pub setupRefusal : List ℕ → Setup → ℕ
-setupRefusal ns s = refusal (sampleChecks (sampleIn ns) (s .sample .rows) (s .sample .cols) (s .count) accepted)
+setupRefusal ns s = refusal (sampleChecks (sampleIn ns) (s .sample .rows) (s .sample .cols) (s .count))
 
 unfoldable pub jobText : List ℕ → Setup → List ℕ
-jobText ns s =
-    let j : Job = jobWith s (tilesOf ns s) in
-    unlessNumber (setupRefusal ns s) (runText j (freshFor j) (listOf (stepsIn (stepNumbers ns))))
+jobText ns s = unlessNumber (setupRefusal ns s) (freshRun s (tilesOf ns s) (listOf (stepsIn (stepNumbers ns))))
 
 -- Input of another form prints only `bad input`
 unfoldable pub numbersText : List ℕ → List ℕ

@@ -6,13 +6,13 @@ use mathlib.Core.List.{List}
 use lib.ListN.{length, getD}
 use Rattle.base.specs.Tables.{tab}
 use Rattle.rules.specs.Tests.{boardSides, wholeTiles}
-use Rattle.rules.specs.Board.{Job, Board}
+use Rattle.rules.specs.Board.{Panel, Board}
 use Rattle.jobs.specs.Form.{isFormed, setupOf}
 use Rattle.jobs.specs.declared.Setup.{Setup}
 use Rattle.stepping.specs.Walks.{Small}
 
 -- the planes of a job's board, and its tiles, are such as the fresh board asks
-pub record Planes (j : Job) (b : Board) : Type 0 where
+pub record Planes (j : Panel) (b : Board) : Type 0 where
   pub sides : boardSides (j .rows) (j .cols) ≡ true
   pub tiles : wholeTiles (j .tiles) ≡ true
   pub pieces : length (b .pieces) ≡ j .rows * j .cols

@@ -2,14 +2,14 @@
 ghost use mathlib.Core.Path.{_≡_};
 ghost use mathlib.Core.Bool.{true};
 ghost use Prim.Native.Nat.{_+_, _*_, _≤_, min};
-ghost use lib.ListN.{length, drop};
+ghost use lib.ListN.{length};
 ghost use Rattle.rules.specs.Tests.{wholeTiles};
-ghost use Rattle.jobs.specs.Form.{stepsIn, listOf, maxBoard, sidesUpTo};
-ghost use Rattle.planes.specs.Planes.{board};
+ghost use Rattle.rules.specs.Promises.{before, after, board};
+ghost use Rattle.jobs.specs.Form.{maxBoard, sidesUpTo};
 ghost use Rattle.lines.specs.Pages.{Writes};
-ghost use Rattle.ending.specs.Ending.{jobWith};
-ghost use Rattle.lister.specs.Printed.{runText, freshFor, jobText};
-ghost use Rattle.stepping.specs.Walks.{Walks};
+ghost use Rattle.ending.specs.Ending.{panelWith};
+ghost use Rattle.lister.specs.Printed.{freshRun, jobText};
+ghost use Rattle.stepping.specs.Walks.{Walks, stepsFrom};
 ghost use Rattle.lister.specs.Runs.{Planes, Formed, clipped};
 use ending::put_end;
 use ending::put_refused;
@@ -34,7 +34,7 @@ fn clip(n: u32) -> u8
 // The sample's cells, which follow the first five numbers.
 fn copy_cells(sample: &mut [u8], numbers: &[u32])
     requires { ⌜ 5 + length (now sample) ≤ length (now numbers) ⌝ }
-    ensures { λ _. ⌜ now (sample .exit) ≡ clipped (now (numbers .entry)) (length (now (sample .entry))) ⌝ }
+    ensures { λ _. ⌜ after sample ≡ clipped (before numbers) (length (before sample)) ⌝ }
 {
     let mut k = 0;
     while k < sample.len() {
@@ -54,8 +54,8 @@ fn run(
     numbers: &[u32],
     from: usize,
 ) -> usize
-    requires { ⌜ (Planes (jobWith setup (now tiles)) (board (now pieces) (now weights) (now counts))) × (Walks (now numbers) from) ⌝ }
-    ensures { λ r. ⌜ Writes (runText (jobWith setup (now (tiles .entry))) (freshFor (jobWith setup (now (tiles .entry)))) (listOf (stepsIn (drop from (now (numbers .entry)))))) 0 (now (out .entry)) r (now (out .exit)) ⌝ }
+    requires { ⌜ (Planes (panelWith setup (now tiles)) (board (now pieces) (now weights) (now counts))) × (Walks (now numbers) from) ⌝ }
+    ensures { λ r. ⌜ Writes (freshRun setup (before tiles) (stepsFrom (before numbers) from)) 0 (before out) r (after out) ⌝ }
 {
     let rows = setup.board.rows;
     let cols = setup.board.cols;
@@ -74,7 +74,7 @@ fn run(
 // The planes, 1,024 equal entries each, of which the board takes as many as it has cells.
 fn run_on_planes(out: &mut [u8], tiles: &[u8], setup: Setup, numbers: &[u32], from: usize) -> usize
     requires { ⌜ (wholeTiles (now tiles) ≡ true) × (sidesUpTo maxBoard (setup .board .rows) (setup .board .cols) ≡ true) × (Walks (now numbers) from) ⌝ }
-    ensures { λ r. ⌜ Writes (runText (jobWith setup (now (tiles .entry))) (freshFor (jobWith setup (now (tiles .entry)))) (listOf (stepsIn (drop from (now (numbers .entry)))))) 0 (now (out .entry)) r (now (out .exit)) ⌝ }
+    ensures { λ r. ⌜ Writes (freshRun setup (before tiles) (stepsFrom (before numbers) from)) 0 (before out) r (after out) ⌝ }
 {
     let cells = setup.board.rows * setup.board.cols;
     let mut pieces = [1u32; 1024];
@@ -95,7 +95,7 @@ fn run_on_planes(out: &mut [u8], tiles: &[u8], setup: Setup, numbers: &[u32], fr
 // A job whose numbers are of the form; the sample is a store for its cells as bytes.
 fn list_sample(out: &mut [u8], sample: &mut [u8], numbers: &[u32], setup: Setup) -> usize
     requires { ⌜ (Formed (now numbers) setup) × (length (now sample) ≡ setup .sample .rows * setup .sample .cols) ⌝ }
-    ensures { λ r. ⌜ Writes (jobText (now (numbers .entry)) setup) 0 (now (out .entry)) r (now (out .exit)) ⌝ }
+    ensures { λ r. ⌜ Writes (jobText (before numbers) setup) 0 (before out) r (after out) ⌝ }
 {
     copy_cells(sample, numbers);
     let mut store = [0u8; STORE];
@@ -123,7 +123,7 @@ fn list_sample(out: &mut [u8], sample: &mut [u8], numbers: &[u32], setup: Setup)
 
 pub fn list_job(out: &mut [u8], numbers: &[u32], setup: Setup) -> usize
     requires { ⌜ Formed (now numbers) setup ⌝ }
-    ensures { λ r. ⌜ Writes (jobText (now (numbers .entry)) setup) 0 (now (out .entry)) r (now (out .exit)) ⌝ }
+    ensures { λ r. ⌜ Writes (jobText (before numbers) setup) 0 (before out) r (after out) ⌝ }
 {
     let cells = setup.sample.rows * setup.sample.cols;
     let mut sample = [0u8; SAMPLE_CELLS];

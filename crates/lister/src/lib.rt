@@ -2,6 +2,7 @@
 mod job;
 
 ghost use Rattle.io.specs.Counts.{Counts};
+ghost use Rattle.base.specs.Lent.{before, after};
 ghost use Rattle.lines.specs.Pages.{Writes};
 ghost use Rattle.lister.specs.Printed.{badLine, numbersText, printed};
 ghost use Rattle.stepping.specs.Walks.{Small};
@@ -18,14 +19,14 @@ pub const INPUT_ROOM: usize = words::MAX_INPUT + 1;
 const MAX_NUMBERS: usize = words::MAX_INPUT / 2;
 
 fn put_bad_input(out: &mut [u8]) -> usize
-    ensures { λ r. ⌜ Writes badLine 0 (now (out .entry)) r (now (out .exit)) ⌝ }
+    ensures { λ r. ⌜ Writes badLine 0 (before out) r (after out) ⌝ }
 {
     lines::put_text(out, 0, b"bad input\n")
 }
 
 fn list_numbers(out: &mut [u8], numbers: &[u32]) -> usize
     requires { ⌜ Small (now numbers) ⌝ }
-    ensures { λ r. ⌜ Writes (numbersText (now (numbers .entry))) 0 (now (out .entry)) r (now (out .exit)) ⌝ }
+    ensures { λ r. ⌜ Writes (numbersText (before numbers)) 0 (before out) r (after out) ⌝ }
 {
     let form = jobs::form_of(numbers);
     let Form::Whole(setup) = form else {
@@ -35,7 +36,7 @@ fn list_numbers(out: &mut [u8], numbers: &[u32]) -> usize
 }
 
 fn list_input(out: &mut [u8], input: &[u8]) -> usize
-    ensures { λ r. ⌜ Writes (printed (now (input .entry))) 0 (now (out .entry)) r (now (out .exit)) ⌝ }
+    ensures { λ r. ⌜ Writes (printed (before input)) 0 (before out) r (after out) ⌝ }
 {
     let mut store = [0u32; MAX_NUMBERS];
     let parsed = words::read_input(&mut store, input);
@@ -49,8 +50,8 @@ fn list_input(out: &mut [u8], input: &[u8]) -> usize
 // Writes what the program prints for an input at the start of a lent buffer, and answers how many bytes that is. A shorter buffer keeps
 // as much of it as fits.
 pub fn list(input: &[u8], out: &mut [u8]) -> usize
-    ensures { λ r. ⌜ Counts r (now (out .exit)) ⌝ }
-    ensures { λ r. ⌜ Writes (printed (now (input .entry))) 0 (now (out .entry)) r (now (out .exit)) ⌝ }
+    ensures { λ r. ⌜ Counts r (after out) ⌝ }
+    ensures { λ r. ⌜ Writes (printed (before input)) 0 (before out) r (after out) ⌝ }
 {
     list_input(out, input)
 }

@@ -17,7 +17,8 @@ use Rattle.base.specs.Tables.{fold}
 use Rattle.base.proofs.Bools.{by-test, never}
 use Rattle.base.specs.Refusal.{refusal, Gives}
 use Rattle.base.proofs.Signs.{counted}
-use Rattle.rules.specs.Board.{Job, Board, layChecks, laying, afterLay, liftChecks, lifting, afterLift}
+use Rattle.rules.specs.Board.{Panel, Board, layChecks, afterLay, liftChecks, afterLift}
+use Rattle.rules.specs.Promises.{Lays, Lifts}
 use Rattle.rules.specs.declared.World.{World}
 use Rattle.rules.specs.declared.LayAnswer.{LayAnswer}
 use Rattle.rules.specs.declared.LiftAnswer.{LiftAnswer}
@@ -28,9 +29,9 @@ use Rattle.jobs.proofs.Forming.{Starts, layBy, liftBy, lays, lifts, step-at, no
 use Rattle.lines.specs.Lines.{numberLine}
 use Rattle.lines.specs.Pages.{Writes}
 use Rattle.lines.proofs.Written.{writes-none, writes-then, writes-as}
-use Rattle.stepping.specs.Steps.{placeAt, answerTo, boardAfter, answersText, boardIn}
+use Rattle.stepping.specs.Steps.{placeAt, answerTo, boardPast, answersText, boardIn}
 use Rattle.boundary.specs.Boundary.{layNumber, liftNumber}
-use Rattle.stepping.specs.Walks.{Walks, stepAt, Stepped, Ran}
+use Rattle.stepping.specs.Walks.{Walks, stepAt, stepsFrom, Stepped, Ran}
 
 -- ---- the number of an answer
 pub lay-number-of : (n : ℕ) → layNumber (layAnswer n) ≡ n
@@ -49,7 +50,7 @@ first-of s (steps l) t = (refl, refl)
 -- what follows a step: where it ends, what it is, and what is left
 pub record Follows (ns : List ℕ) (p : ℕ) : Type 0 where
   pub fits : stepEnd ns p ≤ length ns
-  pub splits : listOf (stepsIn (drop p ns)) ≡ stepAt ns p ∷ listOf (stepsIn (drop (stepEnd ns p) ns))
+  pub splits : stepsFrom ns p ≡ stepAt ns p ∷ stepsFrom ns (stepEnd ns p)
   pub whole : isWhole (stepsIn (drop (stepEnd ns p) ns)) ≡ true
 
 module _ (ns : List ℕ) (p : ℕ) (h : p < length ns) (t : isWhole (stepsIn (drop p ns)) ≡ true) where
@@ -60,8 +61,8 @@ module _ (ns : List ℕ) (p : ℕ) (h : p < length ns) (t : isWhole (stepsIn (dr
       let o = first-of (make (drop (suc p) ns)) (stepsIn (drop (p + suc w) ns)) (sym (ap isWhole at) ∙ t) in
       record {
         fits = rw (← f) k;
-        splits = ap listOf at ∙ o .0 ∙ ap (λ (q : Step). q ∷ listOf (stepsIn (drop (p + suc w) ns))) g
-            ∙ ap (λ (m : ℕ). stepAt ns p ∷ listOf (stepsIn (drop m ns))) f;
+        splits = ap listOf at ∙ o .0 ∙ ap (λ (q : Step). q ∷ stepsFrom ns (p + suc w)) g
+            ∙ ap (λ (m : ℕ). stepAt ns p ∷ stepsFrom ns m) f;
         whole = subst (λ (m : ℕ). isWhole (stepsIn (drop m ns)) ≡ true) f (o .1);
       }
 
@@ -101,68 +102,65 @@ module _ (ns : List ℕ) (p : ℕ) (h : p < length ns) (t : isWhole (stepsIn (dr
   four e = omega (arith, not-cut ns p h 1 3 layBy lays e t)
 
 -- ---- the loop over the steps
-module _ (j : Job) (ns : List ℕ) (b₀ : Board) (l₀ : List Step) (at : ℕ) (x : List ℕ) where
-  abbrev left : ℕ → List Step
-  left p = listOf (stepsIn (drop p ns))
-
+module _ (j : Panel) (count : ℕ) (ns : List ℕ) (b₀ : Board) (l₀ : List Step) (at : ℕ) (x : List ℕ) where
   pub record Running (p q : ℕ) (b : Board) (y : List ℕ) : Type 0 where
     pub walks : Walks ns p
-    pub boards : boardIn j b (left p) ≡ boardIn j b₀ l₀
-    pub texts : (r : ℕ) (z : List ℕ) → Writes (answersText j b (left p)) q y r z → Writes (answersText j b₀ l₀) at x r z
+    pub boards : boardIn j count b (stepsFrom ns p) ≡ boardIn j count b₀ l₀
+    pub texts : (r : ℕ) (z : List ℕ) → Writes (answersText j count b (stepsFrom ns p)) q y r z → Writes (answersText j count b₀ l₀) at x r z
 
-  pub running-turn : {p q r : ℕ} {b c : Board} {y z : List ℕ} → Running p q b y → p < length ns → Stepped j b (stepAt ns p) q y r c z → Running (stepEnd ns p) r c z
+  pub running-turn : {p q r : ℕ} {b c : Board} {y z : List ℕ} → Running p q b y → p < length ns → Stepped j count b (stepAt ns p) q y r c z → Running (stepEnd ns p) r c z
   unfolding boardIn answersText fold
   running-turn {p} {q} {r} {b} {c} {y} {z} w h s =
       let f : Follows ns p = follows ns p h (w .walks .whole) in
       record {
         walks = record { within = f .fits; whole = f .whole; small = w .walks .small };
-        boards = ap (λ (d : Board). boardIn j d (left (stepEnd ns p))) (s .leaves) ∙ ap (boardIn j b) (sym (f .splits)) ∙ w .boards;
+        boards = ap (λ (d : Board). boardIn j count d (stepsFrom ns (stepEnd ns p))) (s .leaves) ∙ ap (boardIn j count b) (sym (f .splits)) ∙ w .boards;
         texts = λ r′ z′ g.
             w .texts r′ z′
-            (writes-as (ap (λ (d : Board). numberLine (answerTo j b (stepAt ns p)) ++ answersText j d (left (stepEnd ns p))) (s .leaves) ∙ ap (answersText j b) (sym (f .splits)))
+            (writes-as (ap (λ (d : Board). numberLine (answerTo j count b (stepAt ns p)) ++ answersText j count d (stepsFrom ns (stepEnd ns p))) (s .leaves) ∙ ap (answersText j count b) (sym (f .splits)))
             (writes-then (s .writes) g));
       }
 
-  pub running-end : {p q : ℕ} {b : Board} {y : List ℕ} → Running p q b y → length ns ≤ p → Ran j b₀ l₀ at x q b y
+  pub running-end : {p q : ℕ} {b : Board} {y : List ℕ} → Running p q b y → length ns ≤ p → Ran j count b₀ l₀ at x q b y
   unfolding boardIn answersText fold stepsIn
   running-end {p} {q} {b} {y} w h =
-      let e : left p ≡ [] = ap (λ (l : List ℕ). listOf (stepsIn l)) (drop-of-length-le ns {i = p} h) in
+      let e : stepsFrom ns p ≡ [] = ap (λ (l : List ℕ). listOf (stepsIn l)) (drop-of-length-le ns {i = p} h) in
       record {
-        leaves = ap (boardIn j b) (sym e) ∙ w .boards;
-        writes = w .texts q y (writes-as (ap (answersText j b) (sym e)) (writes-none q y));
+        leaves = ap (boardIn j count b) (sym e) ∙ w .boards;
+        writes = w .texts q y (writes-as (ap (answersText j count b) (sym e)) (writes-none q y));
       }
 
-pub running-on : {m p q : ℕ} {b : Board} {y : List ℕ} (j : Job) (ns : List ℕ) (b₀ : Board) (l₀ : List Step) (at : ℕ) (x : List ℕ) → m ≡ p
-    → Running j ns b₀ l₀ at x p q b y → Running j ns b₀ l₀ at x m q b y
-running-on {q = q} {b = b} {y = y} j ns b₀ l₀ at x e w = subst (λ (k : ℕ). Running j ns b₀ l₀ at x k q b y) (sym e) w
+pub running-on : {m p q : ℕ} {b : Board} {y : List ℕ} (j : Panel) (count : ℕ) (ns : List ℕ) (b₀ : Board) (l₀ : List Step) (at : ℕ) (x : List ℕ) → m ≡ p
+    → Running j count ns b₀ l₀ at x p q b y → Running j count ns b₀ l₀ at x m q b y
+running-on {q = q} {b = b} {y = y} j count ns b₀ l₀ at x e w = subst (λ (k : ℕ). Running j count ns b₀ l₀ at x k q b y) (sym e) w
 
-pub running-none : (j : Job) (ns : List ℕ) (b : Board) (p at : ℕ) (x : List ℕ) → Walks ns p → Running j ns b (listOf (stepsIn (drop p ns))) at x p at b x
-running-none j ns b p at x w = record { walks = w; boards = refl; texts = λ r z g. g }
+pub running-none : (j : Panel) (count : ℕ) (ns : List ℕ) (b : Board) (p at : ℕ) (x : List ℕ) → Walks ns p → Running j count ns b (stepsFrom ns p) at x p at b x
+running-none j count ns b p at x w = record { walks = w; boards = refl; texts = λ r z g. g }
 
 -- ---- one step of the board's calls
-pub took-lay : {a : LayAnswer} {w : World} {c : Board} {n : ℕ} (j : Job) (b : Board) (s : Step) (row col colour : ℕ) → s ≡ lay row col colour → w ≡ placeAt row col
-    → Gives (laying j b w colour) (afterLay j b w colour) a c → n ≡ layNumber a → Gives (answerTo j b s) (boardAfter j b s) n c
-unfolding answerTo boardAfter
-took-lay {w = w} j b s row col colour e p g q =
+pub took-lay : {a : LayAnswer} {w : World} {c : Board} {n : ℕ} (j : Panel) (count : ℕ) (b : Board) (s : Step) (row col colour : ℕ) → s ≡ lay row col colour → w ≡ placeAt row col
+    → Lays j count w colour b a c → n ≡ layNumber a → Gives (answerTo j count b s) (boardPast j count b s) n c
+unfolding answerTo boardPast
+took-lay {w = w} j count b s row col colour e p g q =
     rw e
     (record {
-      answered = q ∙ ap layNumber (g .answered) ∙ lay-number-of (refusal (layChecks j b w colour)) ∙ ap (λ (v : World). refusal (layChecks j b v colour)) p;
-      leaves = g .leaves ∙ ap (λ (v : World). afterLay j b v colour) p;
+      answered = q ∙ ap layNumber (g .answered) ∙ lay-number-of (refusal (layChecks j count b w colour)) ∙ ap (λ (v : World). refusal (layChecks j count b v colour)) p;
+      leaves = g .leaves ∙ ap (λ (v : World). afterLay j count b v colour) p;
     })
 
-pub took-lift : {a : LiftAnswer} {w : World} {c : Board} {n : ℕ} (j : Job) (b : Board) (s : Step) (row col : ℕ) → s ≡ lift row col → w ≡ placeAt row col
-    → Gives (lifting j b w) (afterLift j b w) a c → n ≡ liftNumber a → Gives (answerTo j b s) (boardAfter j b s) n c
-unfolding answerTo boardAfter
-took-lift {w = w} j b s row col e p g q =
+pub took-lift : {a : LiftAnswer} {w : World} {c : Board} {n : ℕ} (j : Panel) (count : ℕ) (b : Board) (s : Step) (row col : ℕ) → s ≡ lift row col → w ≡ placeAt row col
+    → Lifts j count w b a c → n ≡ liftNumber a → Gives (answerTo j count b s) (boardPast j count b s) n c
+unfolding answerTo boardPast
+took-lift {w = w} j count b s row col e p g q =
     rw e
     (record {
-      answered = q ∙ ap liftNumber (g .answered) ∙ lift-number-of (refusal (liftChecks j b w)) ∙ ap (λ (v : World). refusal (liftChecks j b v)) p;
-      leaves = g .leaves ∙ ap (λ (v : World). afterLift j b v) p;
+      answered = q ∙ ap liftNumber (g .answered) ∙ lift-number-of (refusal (liftChecks j count b w)) ∙ ap (λ (v : World). refusal (liftChecks j count b v)) p;
+      leaves = g .leaves ∙ ap (λ (v : World). afterLift j count b v) p;
     })
 
-pub stepped : {n at r : ℕ} {x y : List ℕ} {c : Board} (j : Job) (b : Board) (s : Step) → Gives (answerTo j b s) (boardAfter j b s) n c
-    → Writes (numberLine n) at x r y → Stepped j b s at x r c y
-stepped j b s g w = record { leaves = g .leaves; writes = writes-as (ap numberLine (g .answered)) w }
+pub stepped : {n at r : ℕ} {x y : List ℕ} {c : Board} (j : Panel) (count : ℕ) (b : Board) (s : Step) → Gives (answerTo j count b s) (boardPast j count b s) n c
+    → Writes (numberLine n) at x r y → Stepped j count b s at x r c y
+stepped j count b s g w = record { leaves = g .leaves; writes = writes-as (ap numberLine (g .answered)) w }
 
 -- a number of the input as a coordinate
 pub coordinate : {n : ℕ} → n ≤ maxNumber → toZ w32 n ≡ pos n

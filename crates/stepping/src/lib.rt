@@ -1,14 +1,11 @@
 // A job's steps on its board, each with its answer on a line.
 ghost use mathlib.Core.Path.{_≡_};
 ghost use Prim.Native.Nat.{_<_, _≤_};
-ghost use lib.ListN.{length, drop};
-ghost use Rattle.base.specs.Refusal.{Gives};
-ghost use Rattle.planes.specs.Planes.{board};
-ghost use Rattle.jobs.specs.Form.{stepsIn, listOf};
+ghost use lib.ListN.{length};
+ghost use Rattle.rules.specs.Promises.{before, boardBefore, boardAfter};
 ghost use Rattle.words.specs.Input.{maxNumber};
-ghost use Rattle.stepping.specs.Steps.{placeAt, answerTo, boardAfter};
-ghost use Rattle.ending.specs.Ending.{jobWith};
-ghost use Rattle.stepping.specs.Walks.{Walks, stepAt, Stepped, Ran};
+ghost use Rattle.stepping.specs.Steps.{placeAt, Takes};
+ghost use Rattle.stepping.specs.Walks.{Walks, stepAt, stepsFrom, StepsOn, RunsOn};
 use jobs::Setup;
 use rules::Offset;
 use rules::World;
@@ -31,7 +28,7 @@ fn take_step(
     p: usize,
 ) -> u32
     requires { ⌜ (Walks (now numbers) p) × (p < length (now numbers)) ⌝ }
-    ensures { λ r. ⌜ Gives (answerTo (jobWith setup (now (tiles .entry))) (board (now (pieces .entry)) (now (weights .entry)) (now (counts .entry))) (stepAt (now (numbers .entry)) p)) (boardAfter (jobWith setup (now (tiles .entry))) (board (now (pieces .entry)) (now (weights .entry)) (now (counts .entry))) (stepAt (now (numbers .entry)) p)) r (board (now (pieces .exit)) (now (weights .exit)) (now (counts .exit))) ⌝ }
+    ensures { λ r. ⌜ Takes setup (before tiles) (stepAt (before numbers) p) (boardBefore pieces weights counts) r (boardAfter pieces weights counts) ⌝ }
 {
     let rows = setup.board.rows;
     let cols = setup.board.cols;
@@ -77,7 +74,7 @@ fn step(
     p: usize,
 ) -> usize
     requires { ⌜ (Walks (now numbers) p) × (p < length (now numbers)) ⌝ }
-    ensures { λ r. ⌜ Stepped (jobWith setup (now (tiles .entry))) (board (now (pieces .entry)) (now (weights .entry)) (now (counts .entry))) (stepAt (now (numbers .entry)) p) at (now (out .entry)) r (board (now (pieces .exit)) (now (weights .exit)) (now (counts .exit))) (now (out .exit)) ⌝ }
+    ensures { λ r. ⌜ StepsOn setup (before tiles) (stepAt (before numbers) p) pieces weights counts at out r ⌝ }
 {
     let no = take_step(pieces, weights, counts, tiles, setup, numbers, p);
     lines::put_number_line(out, at, no)
@@ -96,7 +93,7 @@ pub fn run_steps(
     from: usize,
 ) -> usize
     requires { ⌜ Walks (now numbers) from ⌝ }
-    ensures { λ r. ⌜ Ran (jobWith setup (now (tiles .entry))) (board (now (pieces .entry)) (now (weights .entry)) (now (counts .entry))) (listOf (stepsIn (drop from (now (numbers .entry))))) at (now (out .entry)) r (board (now (pieces .exit)) (now (weights .exit)) (now (counts .exit))) (now (out .exit)) ⌝ }
+    ensures { λ r. ⌜ RunsOn setup (before tiles) (stepsFrom (before numbers) from) pieces weights counts at out r ⌝ }
 {
     let mut q = at;
     let mut p = from;

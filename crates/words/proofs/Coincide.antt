@@ -3,15 +3,11 @@
 use Prim.Native.Nat.{ℕ}
 use mathlib.Core.Path.{_≡_}
 use mathlib.Core.List.{List}
-use lib.ListN.{length}
-use Rattle.base.specs.Refusal.{Gives}
 use Rattle.base.proofs.Chain.{gives-coincide}
-use Rattle.words.specs.Words.{parsedInto, numbersStored}
+use Rattle.words.specs.Words.{Parses}
 use Rattle.words.specs.Input.{inputText}
 use Rattle.words.specs.declared.Parsed.{Parsed}
 
 pub read-input-coincides : (input d : List ℕ) {r s : Parsed} {x y : List ℕ}
-    → Gives (parsedInto (length d) (inputText input)) (numbersStored (inputText input) d) r x
-    → Gives (parsedInto (length d) (inputText input)) (numbersStored (inputText input) d) s y
-    → (r ≡ s) × (x ≡ y)
+    → Parses (inputText input) d r x → Parses (inputText input) d s y → (r ≡ s) × (x ≡ y)
 read-input-coincides input d p q = gives-coincide p q

@@ -7,6 +7,7 @@ use lib.Dec.{leb, eqb}
 use lib.ListN.{length, getD, drop}
 use Rattle.base.specs.Counting.{pick, some, within}
 use Rattle.base.specs.Tables.{fold}
+use Rattle.base.specs.Refusal.{Gives}
 use Rattle.words.specs.declared.Parsed.{Parsed}
 use Rattle.words.specs.declared.Parsed.the-variants as Parsed·
 
@@ -68,3 +69,6 @@ over ns store = ns ++ drop (length ns) store
 abbrev pub numbersStored : Text → List ℕ → List ℕ
 numbersStored bad store = store
 numbersStored (numbers ns) store = pick (leb (length ns) (length store)) (over ns store) store
+
+abbrev pub Parses : Text → List ℕ → Parsed → List ℕ → Type 0
+Parses text store = Gives (parsedInto (length store) text) (numbersStored text store)

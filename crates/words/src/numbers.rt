@@ -2,8 +2,8 @@
 ghost use mathlib.Core.Path.{_≡_};
 ghost use Prim.Native.Nat.{_<_, _≤_};
 ghost use lib.ListN.{length};
-ghost use Rattle.base.specs.Refusal.{Gives};
-ghost use Rattle.words.specs.Words.{isBlank, withDigit, reading, over, numbersIn, parsedInto, numbersStored};
+ghost use Rattle.base.specs.Lent.{before, after};
+ghost use Rattle.words.specs.Words.{isBlank, withDigit, reading, over, numbersIn, Parses};
 ghost use Rattle.words.specs.States.{grownState, nextState, bytesRead, stateOf, foundBy, held, entries, begun, Fits};
 ghost use Rattle.words.specs.Input.{inputText};
 use crate::Found;
@@ -13,7 +13,7 @@ use crate::Parsed;
 use crate::State;
 
 fn is_blank(blanks: &[u8], b: u8) -> bool
-    ensures { λ r. ⌜ r ≡ isBlank (now (blanks .entry)) b ⌝ }
+    ensures { λ r. ⌜ r ≡ isBlank (before blanks) b ⌝ }
 {
     let mut k = 0;
     while k < blanks.len() {
@@ -53,7 +53,7 @@ fn grown_by(limit: u32, k: usize, n: u32, b: u8) -> State
 // One byte more.
 fn after_byte(s: State, b: u8, blanks: &[u8], limit: u32) -> State
     requires { ⌜ bytesRead s < 18446744073709551615 ⌝ }
-    ensures { λ r. ⌜ r ≡ nextState (now (blanks .entry)) limit s b ⌝ }
+    ensures { λ r. ⌜ r ≡ nextState (before blanks) limit s b ⌝ }
 {
     match s {
         State::Spoilt => State::Spoilt,
@@ -74,7 +74,7 @@ fn after_byte(s: State, b: u8, blanks: &[u8], limit: u32) -> State
 
 // What a text is, with nothing stored.
 fn survey(text: &[u8], blanks: &[u8], limit: u32) -> Found
-    ensures { λ r. ⌜ r ≡ foundBy (stateOf (reading (now (blanks .entry)) limit (now (text .entry)))) ⌝ }
+    ensures { λ r. ⌜ r ≡ foundBy (stateOf (reading (before blanks) limit (before text))) ⌝ }
 {
     let mut s = State::Between(0);
     let mut i = 0;
@@ -91,7 +91,7 @@ fn survey(text: &[u8], blanks: &[u8], limit: u32) -> Found
 
 fn hold(store: &mut [u32], s: State)
     requires { ⌜ entries s ≤ length (now store) ⌝ }
-    ensures { λ _. ⌜ now (store .exit) ≡ held s (now (store .entry)) ⌝ }
+    ensures { λ _. ⌜ after store ≡ held s (before store) ⌝ }
 {
     match s {
         State::Spoilt => {}
@@ -105,7 +105,7 @@ fn hold(store: &mut [u32], s: State)
 // Stores the numbers of a text that is known to be numbers, and few enough.
 fn keep(store: &mut [u32], text: &[u8], blanks: &[u8], limit: u32)
     requires { ⌜ Fits (length (now store)) (reading (now blanks) limit (now text)) ⌝ }
-    ensures { λ _. ⌜ now (store .exit) ≡ over (begun (reading (now (blanks .entry)) limit (now (text .entry)))) (now (store .entry)) ⌝ }
+    ensures { λ _. ⌜ after store ≡ over (begun (reading (before blanks) limit (before text))) (before store) ⌝ }
 {
     let mut s = State::Between(0);
     let mut i = 0;
@@ -118,7 +118,7 @@ fn keep(store: &mut [u32], text: &[u8], blanks: &[u8], limit: u32)
 
 // Reads the numbers of a text into the store; any other text, and one for which there is no room, leaves it as it was.
 pub fn parse(store: &mut [u32], text: &[u8], blanks: &[u8], limit: u32) -> Parsed
-    ensures { λ r. ⌜ Gives (parsedInto (length (now (store .entry))) (numbersIn (now (blanks .entry)) limit (now (text .entry)))) (numbersStored (numbersIn (now (blanks .entry)) limit (now (text .entry))) (now (store .entry))) r (now (store .exit)) ⌝ }
+    ensures { λ r. ⌜ Parses (numbersIn (before blanks) limit (before text)) (before store) r (after store) ⌝ }
 {
     let found = survey(text, blanks, limit);
     let Found::Numbers(n) = found else {
@@ -133,7 +133,7 @@ pub fn parse(store: &mut [u32], text: &[u8], blanks: &[u8], limit: u32) -> Parse
 
 // The listing program's input.
 pub fn read_input(store: &mut [u32], input: &[u8]) -> Parsed
-    ensures { λ r. ⌜ Gives (parsedInto (length (now (store .entry))) (inputText (now (input .entry)))) (numbersStored (inputText (now (input .entry))) (now (store .entry))) r (now (store .exit)) ⌝ }
+    ensures { λ r. ⌜ Parses (inputText (before input)) (before store) r (after store) ⌝ }
 {
     if MAX_INPUT < input.len() {
         return Parsed::Bad;

@@ -12,7 +12,7 @@ check-for-contradiction-requires : tie.Need-check-for-contradiction-requires
 check-for-contradiction-requires c κs = search needs
 
 put-scan-requires : tie.Need-put-scan-requires
-put-scan-requires c κs = dead-end-near _ _ _ _ _ _ (c .before .before .before .before .before .before .before .before .before .before .before .pre) (c .before .check-for-contradiction .ensures)
+put-scan-requires c κs = dead-end-near _ _ _ _ _ _ _ (c .before .before .before .before .before .before .before .before .before .before .before .pre) (c .before .check-for-contradiction .ensures)
 
 same-length : tie.Need-same-length
 same-length c = search needs

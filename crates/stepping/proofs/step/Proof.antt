@@ -23,7 +23,7 @@ same-length-4 : tie.Need-same-length-4
 same-length-4 c = search needs
 
 returns : tie.Need-returns
-returns c = stepped _ _ _ (c .before .before .before .before .before .before .before .before .before .before .take-step .ensures) (c .before .before .put-number-line .ensures)
+returns c = stepped _ _ _ _ (c .before .before .before .before .before .before .before .before .before .before .take-step .ensures) (c .before .before .put-number-line .ensures)
 
 pub step-spec : {M : Type 1} → statement M
 step-spec =

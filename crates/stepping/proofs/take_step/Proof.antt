@@ -2,7 +2,7 @@
 -- Assumes nothing.
 use native.Mathlib.Omega.{arith}
 use Prim.Native.Nat.{_+_}
-use Rattle.ending.specs.Ending.{jobWith}
+use Rattle.ending.specs.Ending.{panelWith}
 use Rattle.stepping.proofs.Walking.{three, four, at-lay, at-lift, took-lay, took-lift}
 use borrow.Author.Needs.{needs}
 use Rattle.stepping.proofs.take_step.Statement.{statement}
@@ -60,8 +60,8 @@ same-length-3 : tie.Need-same-length-3
 same-length-3 c = search needs
 
 returns : tie.Need-returns
-unfolding jobWith
-returns c = took-lay _ _ _ _ _ _ (at-lay _ _ (c .before .before .before .before .before .before .before .before .before .before .before .before .before .before .before .before .before .before .before .before .before .before .pre .1) (c .before .before .before .before .before .before .before .before .before .before .before .before .before .before .before .before .before .before .before .before .before .before .pre .0 .whole) (c .before .before .before .before .before .before .before .before .before .before .before .before .if1 .taken)) (c .before .before .before .before .before .before .before .before .before .before .before .before .before .before .place .ensures) (c .before .before .before .before .before .before .before .lay .ensures) (c .laid .ensures)
+unfolding panelWith
+returns c = took-lay _ _ _ _ _ _ _ (at-lay _ _ (c .before .before .before .before .before .before .before .before .before .before .before .before .before .before .before .before .before .before .before .before .before .before .pre .1) (c .before .before .before .before .before .before .before .before .before .before .before .before .before .before .before .before .before .before .before .before .before .before .pre .0 .whole) (c .before .before .before .before .before .before .before .before .before .before .before .before .if1 .taken)) (c .before .before .before .before .before .before .before .before .before .before .before .before .before .before .place .ensures) (c .before .before .before .before .before .before .before .lay .ensures) (c .laid .ensures)
 
 lift-requires : tie.Need-lift-requires
 lift-requires c κs = search needs
@@ -79,8 +79,8 @@ same-length-6 : tie.Need-same-length-6
 same-length-6 c = search needs
 
 returns-2 : tie.Need-returns-2
-unfolding jobWith
-returns-2 c = took-lift _ _ _ _ _ (at-lift _ _ (c .before .before .before .before .before .before .before .before .before .before .before .before .before .before .before .before .before .before .before .before .before .pre .1) (c .before .before .before .before .before .before .before .before .before .before .before .before .before .before .before .before .before .before .before .before .before .pre .0 .whole) (c .before .before .before .before .before .before .before .before .before .before .before .if1 .left)) (c .before .before .before .before .before .before .before .before .before .before .before .before .before .place .ensures) (c .before .before .before .before .before .before .before .lift .ensures) (c .lifted .ensures)
+unfolding panelWith
+returns-2 c = took-lift _ _ _ _ _ _ (at-lift _ _ (c .before .before .before .before .before .before .before .before .before .before .before .before .before .before .before .before .before .before .before .before .before .pre .1) (c .before .before .before .before .before .before .before .before .before .before .before .before .before .before .before .before .before .before .before .before .before .pre .0 .whole) (c .before .before .before .before .before .before .before .before .before .before .before .if1 .left)) (c .before .before .before .before .before .before .before .before .before .before .before .before .before .place .ensures) (c .before .before .before .before .before .before .before .lift .ensures) (c .lifted .ensures)
 
 pub take-step-spec : {M : Type 1} → statement M
 take-step-spec =

@@ -1,6 +1,6 @@
 -- `lister::job::run` meets its contract: a fresh board, the steps on it, and the end, by `ran-fresh`. Assumes nothing.
 use Rattle.lister.proofs.Telling.{ran-fresh}
-use Rattle.ending.specs.Ending.{jobWith}
+use Rattle.ending.specs.Ending.{panelWith}
 use borrow.Author.Needs.{needs}
 use Rattle.lister.proofs.job.run.Statement.{statement}
 use Rattle.lister.proofs.job.run.Tie as tie
@@ -12,7 +12,7 @@ run-steps-requires : tie.Need-run-steps-requires
 run-steps-requires c κs = search needs
 
 put-end-requires : tie.Need-put-end-requires
-unfolding jobWith
+unfolding panelWith
 put-end-requires c κs = c .before .before .before .before .before .before .before .before .before .before .before .before .before .before .before .before .before .before .before .before .before .before .before .before .before .before .before .before .before .before .before .before .before .pre .0 .sides
 
 same-length : tie.Need-same-length
@@ -28,8 +28,8 @@ same-length-4 : tie.Need-same-length-4
 same-length-4 c = search needs
 
 returns : tie.Need-returns
-unfolding jobWith
-returns c = ran-fresh _ _ _ (c .before .before .before .before .before .before .before .before .before .before .before .before .before .before .before .before .before .before .before .before .before .before .before .before .before .before .before .before .before .before .before .before .before .before .before .before .pre .0) (c .before .before .before .before .before .before .before .before .before .before .before .before .before .before .before .before .before .before .before .before .before .before .before .before .before .before .fresh .ensures .leaves) (c .before .before .before .before .before .before .before .before .before .before .before .before .before .before .before .run-steps .ensures) (c .before .before .put-end .ensures)
+unfolding panelWith
+returns c = ran-fresh _ _ _ _ (c .before .before .before .before .before .before .before .before .before .before .before .before .before .before .before .before .before .before .before .before .before .before .before .before .before .before .before .before .before .before .before .before .before .before .before .before .pre .0) (c .before .before .before .before .before .before .before .before .before .before .before .before .before .before .before .before .before .before .before .before .before .before .before .before .before .before .fresh .ensures) (c .before .before .before .before .before .before .before .before .before .before .before .before .before .before .before .run-steps .ensures) (c .before .before .put-end .ensures)
 
 pub run-spec : {M : Type 1} → statement M
 run-spec =

@@ -3,7 +3,7 @@ use mathlib.Core.Path.{sym}
 use native.Mathlib.Omega.{arith}
 use lib.ListN.{length-take}
 use Rattle.lister.proofs.Telling.{board-few, board-sides}
-use Rattle.ending.specs.Ending.{jobWith}
+use Rattle.ending.specs.Ending.{panelWith}
 use borrow.Author.Needs.{needs}
 use Rattle.lister.proofs.job.run_on_planes.Statement.{statement}
 use Rattle.lister.proofs.job.run_on_planes.Tie as tie
@@ -30,7 +30,7 @@ slice-aggregate-run-3 : tie.Need-slice-aggregate-run-3
 slice-aggregate-run-3 c = sym (simp length-take (omega (arith, board-few (c .before .before .before .before .before .before .before .args .setup .board .rows) (c .before .before .before .before .before .before .before .args .setup .board .cols) (c .before .before .before .before .before .before .before .pre .1))))
 
 run-requires : tie.Need-run-requires
-unfolding jobWith
+unfolding panelWith
 run-requires c κs = let few = board-few (c .before .before .before .before .before .before .before .before .args .setup .board .rows) (c .before .before .before .before .before .before .before .before .args .setup .board .cols) (c .before .before .before .before .before .before .before .before .pre .1) in (record { sides = board-sides _ _ (c .before .before .before .before .before .before .before .before .pre .1); tiles = c .before .before .before .before .before .before .before .before .pre .0; pieces = simp length-take (omega (arith, few)); weights = simp length-take (omega (arith, few)); counts = simp length-take (omega (arith, few)) }, c .before .before .before .before .before .before .before .before .pre .2)
 
 same-length : tie.Need-same-length
