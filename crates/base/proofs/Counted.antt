@@ -115,6 +115,13 @@ module _ (f g : ℕ → Bool) where
   tally-ext zero h = refl
   tally-ext (suc n) h = rw (tally-ext n (λ k l. h k (le-step l)), h n (lt-suc-self n))
 
+-- one turn of a loop that counts, and its end
+pub tally-turn : {n sofar here : ℕ} {test : Bool} (f : ℕ → Bool) → sofar ≡ tally n f → test ≡ f n → here ≡ pick test 1 0 → sofar + here ≡ tally (n + 1) f
+tally-turn {n} f p q e = rw (p, e, q) (sym (tally-more f n))
+
+pub tally-done : {n i r : ℕ} (f : ℕ → Bool) → i ≤ n → n ≤ i → r ≡ tally i f → r ≡ tally n f
+tally-done {n} {i} f a b h = let e : i ≡ n = omega arith in h ∙ ap (λ (m : ℕ). tally m f) e
+
 -- the first number of which f holds
 pub first-none : (f : ℕ → Bool) (n : ℕ) → ((k : ℕ) → k < n → f k ≡ false) → first n f ≡ n
 unfolding first

@@ -30,7 +30,8 @@ pub fn lay(
     offset: Offset,
     colour: u32,
 ) -> LayAnswer
-    ensures { λ a. ⌜ Lays (panel rows cols (before tiles) offset) count position colour (boardBefore pieces weights counts) a (boardAfter pieces weights counts) ⌝ }
+    ensures { λ a. ⌜ Lays (panel rows cols (before tiles) offset) count position colour
+        (boardBefore pieces weights counts) a (boardAfter pieces weights counts) ⌝ }
 {
     let no = lengths_refused(pieces, weights, counts, rows, cols);
     if no != 0 {
@@ -78,7 +79,8 @@ pub fn lift(
     position: World,
     offset: Offset,
 ) -> LiftAnswer
-    ensures { λ a. ⌜ Lifts (panel rows cols (before tiles) offset) count position (boardBefore pieces weights counts) a (boardAfter pieces weights counts) ⌝ }
+    ensures { λ a. ⌜ Lifts (panel rows cols (before tiles) offset) count position
+        (boardBefore pieces weights counts) a (boardAfter pieces weights counts) ⌝ }
 {
     let no = lengths_refused(pieces, weights, counts, rows, cols);
     if no != 0 {

@@ -142,6 +142,5 @@ abbrev pub spanLeft : SpanAnswer → List ℕ → List ℕ
 spanLeft (SpanAnswer·.Spans r c) out = put (put (put (put out 0 (r .0)) 1 (r .1)) 2 (c .0)) 3 (c .1)
 spanLeft (SpanAnswer·.Refused n) out = out
 
-
 abbrev pub TellsSpans : SpanAnswer → List ℕ → ℕ → List ℕ → Type 0
 TellsSpans answer out = Gives (spanNumber answer) (spanLeft answer out)

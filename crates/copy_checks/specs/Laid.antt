@@ -32,7 +32,8 @@ pub record Sized (rows cols : ℕ) (p : Pads) (held room : ℕ) : Type 0 where
 abbrev pub laidCell : {A : Type 0} → A → List A → ℕ → ℕ → ℕ → ℕ → ℕ → A → A
 laidCell none plane cols left top r c held = getD plane (numberOf cols (cellAt (r - left) (c - top))) none
 
--- the larger plane where the rows are laid
+-- the larger plane where the rows are laid. A region's top and bottom are rows, its left and right columns; of the pads, as in document 01,
+-- left belongs to the rows and top to the columns
 unfoldable pub rowsLaid : {A : Type 0} → A → List A → ℕ → ℕ → Pads → List A → List A
 rowsLaid none plane rows cols p larger =
     overRegion none (laidCell none plane cols (p .left) (p .top)) (newCols cols p) (p .left) (p .left + rows) (p .top) (p .top + cols) larger

@@ -68,7 +68,8 @@ pub extern "C" fn desk_lay(
     across: i32,
     colour: u32,
 ) -> u32
-    ensures { λ r. ⌜ DeskLays rows cols (before tiles) count row col down across colour (boardBefore pieces weights counts) r (boardAfter pieces weights counts) ⌝ }
+    ensures { λ r. ⌜ DeskLays rows cols (before tiles) count row col down across colour
+        (boardBefore pieces weights counts) r (boardAfter pieces weights counts) ⌝ }
 {
     let laid_at = world_at(row, col);
     let offset = offset_at(down, across);
@@ -101,7 +102,8 @@ pub extern "C" fn desk_lift(
     down: i32,
     across: i32,
 ) -> u32
-    ensures { λ r. ⌜ DeskLifts rows cols (before tiles) count row col down across (boardBefore pieces weights counts) r (boardAfter pieces weights counts) ⌝ }
+    ensures { λ r. ⌜ DeskLifts rows cols (before tiles) count row col down across
+        (boardBefore pieces weights counts) r (boardAfter pieces weights counts) ⌝ }
 {
     let lifted_at = world_at(row, col);
     let offset = offset_at(down, across);

@@ -2,3 +2,4 @@ pub mod Bench
 pub mod Answered
 pub mod Lowest
 pub mod Shares
+pub mod Fitting

@@ -35,8 +35,8 @@ abbrev pub shapeOf : Panel → Shape
 shapeOf j = j .kind (j .rows) (j .cols)
 
 -- the number of the cell of a wall coordinate
-abbrev pub cellIn : Panel → World → ℕ
-cellIn j w = numberOf (j .cols) (cellOf w (j .offset))
+abbrev pub numberIn : Panel → World → ℕ
+numberIn j w = numberOf (j .cols) (cellOf w (j .offset))
 
 -- ---- what the standing pieces alone say
 
@@ -129,13 +129,13 @@ abbrev pub layChecks : Panel → ℕ → Board → World → ℕ → Checks
 layChecks j count b w colour =
     boardChecks j count b
     then placeChecks (j .rows) (j .cols) w (j .offset)
-    then layingChecks (b .pieces) (cellIn j w) count colour
+    then layingChecks (b .pieces) (numberIn j w) count colour
 
 abbrev pub liftChecks : Panel → ℕ → Board → World → Checks
 liftChecks j count b w =
     boardChecks j count b
     then placeChecks (j .rows) (j .cols) w (j .offset)
-    then liftingChecks (b .pieces) (cellIn j w)
+    then liftingChecks (b .pieces) (numberIn j w)
 
 -- what a lay and a lift answer
 abbrev pub laying : Panel → ℕ → Board → World → ℕ → LayAnswer
@@ -147,16 +147,13 @@ lifting j count b w = liftAnswer (refusal (liftChecks j count b w))
 -- the board that a call leaves; a refused call changes nothing
 unfoldable pub afterLay : Panel → ℕ → Board → World → ℕ → Board
 afterLay j count b w colour =
-    unlessRefused (refusal (layChecks j count b w colour)) (laid (shapeOf j) (j .tiles) b (cellIn j w) colour) b
+    unlessRefused (refusal (layChecks j count b w colour)) (laid (shapeOf j) (j .tiles) b (numberIn j w) colour) b
 
 unfoldable pub afterLift : Panel → ℕ → Board → World → Board
-afterLift j count b w = unlessRefused (refusal (liftChecks j count b w)) (lifted (shapeOf j) (j .tiles) b (cellIn j w)) b
+afterLift j count b w = unlessRefused (refusal (liftChecks j count b w)) (lifted (shapeOf j) (j .tiles) b (numberIn j w)) b
 
 abbrev pub freshChecks : ℕ → ℕ → ℕ → Board → Checks
 freshChecks rows cols tiles b = boardLengths rows cols b then LENGTH unless tileNumber tiles
-
-unfoldable pub afterFresh : ℕ → ℕ → ℕ → Board → Board
-afterFresh rows cols tiles b = unlessRefused (refusal (freshChecks rows cols tiles b)) (freshBoard (rows * cols) tiles) b
 
 -- the ported steps of their own: weights up and down, and the recount
 abbrev pub weightPlaneChecks : List ℕ → ℕ → ℕ → Checks

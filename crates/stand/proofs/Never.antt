@@ -1,6 +1,7 @@
 -- The auditor's question: a piece is laid on the plan and later lifted; how do you know the plan is as if that piece had never lain there?
 --     as-if-never    whatever calls come before, between and after, refused ones included, the board is that of the same calls without the
 --                    piece's; those between name the number of colours that the piece was laid with
+--     flat-never     the same for the panels of the calls
 --     lifted-at-once   a piece laid and lifted at once leaves the very board that was there
 --     same-pieces    two runs that leave the same pieces leave the same board, whatever was laid and lifted on the way
 -- The two runs are followed side by side: at every moment the one without the piece has the other's pieces with that cell bare.
@@ -23,11 +24,14 @@ use Rattle.base.proofs.Tabled.{fold-append}
 use Rattle.rules.specs.Bounds.{maxColours, bare}
 use Rattle.rules.specs.Tests.{piecesStored}
 use Rattle.rules.specs.Grid.{laidOn}
-use Rattle.rules.specs.Board.{Panel, shapeOf, cellIn, Board, boardOf, afterLay, afterLift}
+use Rattle.rules.specs.Board.{Panel, shapeOf, numberIn, Board, boardOf, afterLay, afterLift}
+use Rattle.rules.specs.Promises.{panel}
 use Rattle.rules.specs.declared.World.{World}
+use Rattle.rules.specs.declared.Offset.{Offset}
 use Rattle.rules.specs.Places.{samePlace}
 use Rattle.stand.specs.Runs.{fresh, Call, lay, lift, placeOf, countOf, refusalOf, step, run, says, Naming, elsewhere}
 use Rattle.stand.proofs.Shared.{Sound}
+use Rattle.stand.proofs.Flat.{flat-sound}
 use Rattle.stand.proofs.Walls.{On, cell-in, same-place, same-cell}
 use Rattle.stand.proofs.Calls.{InBounds, Named, cellBy, Taken, either, accepts, other, taken, Good, ofPieces, put-stored, moved, nothing, fresh-good, moved-good, moved-stored}
 use Rattle.stand.proofs.Stands.{movedBy, run-good, run-fresh, says-all}
@@ -53,7 +57,7 @@ module _ (j : Panel) where
 
   module _ (w : World) (count : ℕ) (panel : InBounds j) (named : Named j count) (on : On j w) where
     abbrev k : ℕ
-    k = cellIn j w
+    k = numberIn j w
 
     -- all pieces have colours of the count that the calls name
     abbrev Stored : List ℕ → Type 0
@@ -95,8 +99,8 @@ module _ (j : Panel) where
         bare-stored = put-stored q (countOf c) k bare here (omega arith) (omega arith)
 
         at : (c : Call) → cellBy j c ≢ k → says j (without q) c ≡ without (says j q c)
-        at (lay n v colour) ne = set-comm q k (cellIn j v) bare (colour + 1) (λ z. ne (sym z))
-        at (lift n v) ne = set-comm q k (cellIn j v) bare bare (λ z. ne (sym z))
+        at (lay n v colour) ne = set-comm q k (numberIn j v) bare (colour + 1) (λ z. ne (sym z))
+        at (lift n v) ne = set-comm q k (numberIn j v) bare bare (λ z. ne (sym z))
 
     -- the pieces keep colours of the count
     keeps : (q : List ℕ) (c : Call) → Stored q → countOf c ≡ count → Stored (moved j q c)
@@ -174,11 +178,11 @@ module _ (j : Panel) (sound : Sound (shapeOf j)) where
       kept : piecesStored q count ≡ true
       kept = moved-stored j p (lay count w colour) (t .stored)
 
-      back : set q (cellIn j w) bare ≡ p
+      back : set q (numberIn j w) bare ≡ p
       back =
-          ap (λ (r : List ℕ). set r (cellIn j w) bare) (has-new _ (says j p (lay count w colour)) p lays′)
-          ∙ set-set p (cellIn j w) (colour + 1) bare
-          ∙ bare-stays j p (cellIn j w) good (cell-in j (t .on)) (not-true _ (t .own .1))
+          ap (λ (r : List ℕ). set r (numberIn j w) bare) (has-new _ (says j p (lay count w colour)) p lays′)
+          ∙ set-set p (numberIn j w) (colour + 1) bare
+          ∙ bare-stays j p (numberIn j w) good (cell-in j (t .on)) (not-true _ (t .own .1))
 
   -- a piece laid and lifted at once leaves the very board that was there
   pub lifted-at-once : (calls : List Call) (w : World) (count colour : ℕ) → refusalOf j (run j (fresh j) calls) (lay count w colour) ≡ 0
@@ -194,3 +198,11 @@ module _ (j : Panel) (sound : Sound (shapeOf j)) where
   -- whatever was laid and lifted on the way, the board depends on the standing pieces alone
   pub same-pieces : (some others : List Call) → run j (fresh j) some .pieces ≡ run j (fresh j) others .pieces → run j (fresh j) some ≡ run j (fresh j) others
   same-pieces some others e = says-all j sound some ∙ ap (boardOf (shapeOf j) (j .tiles)) e ∙ sym (says-all j sound others)
+
+-- the auditor's question on the panels of the calls, whose grid is flat
+pub flat-never : (rows cols : ℕ) (tiles : List ℕ) (offset : Offset) (before between after : List Call) (w : World) (count colour : ℕ)
+    → let j = panel rows cols tiles offset in
+    refusalOf j (run j (fresh j) before) (lay count w colour) ≡ 0
+    → Naming count between
+    → run j (fresh j) (before ++ lay count w colour ∷ between ++ lift count w ∷ after) ≡ run j (fresh j) (before ++ elsewhere w between ++ after)
+flat-never rows cols tiles offset = as-if-never (panel rows cols tiles offset) (flat-sound rows cols)

@@ -15,17 +15,18 @@ use lib.Dec.{leb, ltb, eqb}
 use lib.ListN.{length, getD, set, length-set, List·getD-eq-default}
 use lib.Seq.{getD-set-same, getD-set-other, set-set, set-getD}
 use borrow.Author.Tests.{leb-false, ltb-true, lt-ltb, le-ltb, eq-eqb}
-use Rattle.base.specs.Counting.{pick, every, sum}
+use Rattle.base.specs.Counting.{pick, sum}
 use Rattle.base.specs.Tables.{tab}
-use Rattle.base.proofs.Bools.{never, by-test, pick-yes, pick-no, and-right, or-left}
-use Rattle.base.proofs.Counted.{sum-one, every-is, tally-all, tally-le, tally-ext, every-ext}
+use Rattle.base.proofs.Bools.{never, by-test, pick-yes, pick-no, and-right}
+use Rattle.base.proofs.Counted.{sum-one, every-is}
 use Rattle.base.proofs.Numbers.{lt-or-le}
 use Rattle.base.proofs.Tabled.{length-tab, getD-tab, tab-ext, is-tab}
 use Rattle.rules.specs.Bounds.{bare}
 use Rattle.rules.specs.Tests.{tilesIn}
 use Rattle.rules.specs.Grid.{Shape, laidOn}
-use Rattle.rules.specs.Fit.{pattern, agrees, agreesAt, fitsTile, fitCount}
+use Rattle.rules.specs.Fit.{pattern, fitCount}
 use Rattle.rules.proofs.Shares.{share-le}
+use Rattle.rules.proofs.Fitting.{count-ext, bare-fits, fit-low}
 use Rattle.rules.specs.Board.{Board, share, reach, weightsOf, countsOf, boardOf, raised, lowered, isRecounted, recounted, laid, lifted, freshBoard}
 
 -- all that is asked of a shape: a region that lies inside and starts further than two cells from cell k does not show cell k
@@ -72,24 +73,9 @@ not-first false b p e = refl
 
 -- ---- fits
 
--- equal patterns are fitted by equally many tiles
-pub fit-ext : (tiles : List ℕ) (shown other : ℕ → ℕ) → ((i : ℕ) → i < 9 → shown i ≡ other i) → fitCount tiles shown ≡ fitCount tiles other
-unfolding fitCount fitsTile
-fit-ext tiles shown other same =
-    tally-ext (λ n. every 9 (agreesAt tiles shown n)) (λ n. every 9 (agreesAt tiles other n)) (tilesIn tiles)
-    (λ n n<. every-ext (agreesAt tiles shown n) (agreesAt tiles other n) 9
-    (λ i i<. ap (λ (c : ℕ). agrees c (getD tiles (n * 9 + i) 0)) (same i i<)))
-
-pub fit-low : (tiles : List ℕ) (shown : ℕ → ℕ) → fitCount tiles shown ≤ tilesIn tiles
-unfolding fitCount
-fit-low tiles shown = tally-le (fitsTile tiles shown) (tilesIn tiles)
-
 -- every tile fits where nothing is laid
-pub fit-all : (tiles : List ℕ) (shown : ℕ → ℕ) → ((i : ℕ) → i < 9 → shown i ≡ 0) → fitCount tiles shown ≡ tilesIn tiles
-unfolding fitCount fitsTile agrees
-fit-all tiles shown none =
-    tally-all (λ n. every 9 (agreesAt tiles shown n)) (tilesIn tiles)
-    (λ n n<. every-is (agreesAt tiles shown n) 9 (λ i i<. or-left (eqb (shown i) 0) (eqb (shown i) (getD tiles (n * 9 + i) 0)) (eq-eqb (shown i) 0 (none i i<))))
+fit-all : (tiles : List ℕ) (shown : ℕ → ℕ) → ((i : ℕ) → i < 9 → shown i ≡ 0) → fitCount tiles shown ≡ tilesIn tiles
+fit-all tiles shown none = sym (bare-fits tiles shown (every-is (λ i. eqb (shown i) 0) 9 (λ i i<. eq-eqb (shown i) 0 (none i i<))))
 
 -- ---- weights
 
@@ -180,7 +166,7 @@ module _ (g : Shape) where
             by-test (g .whole s)
             (λ inside.
             ap (λ (n : ℕ). pick (g .whole s) n (tilesIn tiles))
-            (fit-ext tiles (pattern g p s) (pattern g (set p k v) s)
+            (count-ext tiles (pattern g p s) (pattern g (set p k v) s)
             (λ i i<. ap (λ (x : ℕ). x - 1) (sym (getD-set-other p k (g .place s i) v 0 (sound .unseen k s i i< inside (leb-false (g .apart k s) 2 (not-first (leb (g .apart k s) 2) (g .whole s) inside far))))))))
             (λ past. pick-no (g .whole s) (fits p s) (tilesIn tiles) past ∙ sym (pick-no (g .whole s) (fits (set p k v) s) (tilesIn tiles) past))
 

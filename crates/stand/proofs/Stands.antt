@@ -3,6 +3,7 @@
 -- (`flat-sound`), and all arguments, the number of colours that each call names among them; nothing else is asked.
 --     stands          the whole board, as one equation
 --     pieces-stand, weights-stand, counts-stand   its three parts in the words of the demand
+--     flat-stands     the same for the panels of the calls, with nothing asked
 --     from-fresh      the board that an accepted call of fresh leaves is the one from which the runs start
 -- Assumes nothing.
 use Prim.Native.Nat.{ℕ, zero, suc, _+_, _*_, _<_, _≤_}
@@ -15,16 +16,20 @@ use lib.ListN.{getD}
 use borrow.Author.Tests.{leb-true, leb-false, ne-eqb}
 use Rattle.base.specs.Counting.{pick, sum, tally}
 use Rattle.base.specs.Tables.{tab, fold}
-use Rattle.base.specs.Refusal.{refusal, unlessRefused}
+use Rattle.base.specs.Refusal.{unlessRefused}
 use Rattle.base.proofs.Bools.{by-test}
-use Rattle.base.proofs.Chain.{has-new}
 use Rattle.base.proofs.Tabled.{getD-tab}
 use Rattle.rules.specs.Tests.{tilesIn}
 use Rattle.rules.specs.Grid.{laidOn}
 use Rattle.rules.specs.Fit.{pattern, fitCount}
-use Rattle.rules.specs.Board.{Panel, shapeOf, Board, share, reach, weightsOf, countsOf, boardOf, freshChecks, afterFresh}
+use Rattle.rules.specs.Board.{Panel, shapeOf, Board, share, reach, weightsOf, countsOf, boardOf}
+use Rattle.rules.specs.Promises.{panel, Freshens}
+use Rattle.rules.specs.declared.Offset.{Offset}
+use Rattle.rules.specs.declared.Written.the-variants.{Done}
+use Rattle.rules.proofs.Answered.{was-written}
 use Rattle.stand.specs.Runs.{Call, fresh, refusalOf, step, run, acceptedIn, says, told, withinOne, exactlyTwo}
 use Rattle.stand.proofs.Shared.{Sound, fresh-is}
+use Rattle.stand.proofs.Flat.{flat-sound}
 use Rattle.stand.proofs.Calls.{Good, ofPieces, moved, step-is, nothing, fresh-good, moved-good}
 
 -- a sum of shares, as numbers of pieces
@@ -136,8 +141,11 @@ module _ (j : Panel) (sound : Sound (shapeOf j)) where
       ∙ ap (λ (n : ℕ). getD (tab n (λ i. pick (shapeOf j .whole i) (fitCount (j .tiles) (pattern (shapeOf j) p i)) (tilesIn (j .tiles)))) s 0) (pieces-good calls .long)
       ∙ getD-tab (j .rows * j .cols) (λ i. pick (shapeOf j .whole i) (fitCount (j .tiles) (pattern (shapeOf j) p i)) (tilesIn (j .tiles))) s 0 s<
 
-  -- whatever the lent planes held, an accepted call of fresh leaves the board from which the runs start
-  pub from-fresh : (b : Board) → refusal (freshChecks (j .rows) (j .cols) (tilesIn (j .tiles)) b) ≡ 0
-      → afterFresh (j .rows) (j .cols) (tilesIn (j .tiles)) b ≡ fresh j
-  unfolding afterFresh
-  from-fresh b e = has-new _ (fresh j) b e
+-- "From a fresh board": whatever the lent planes held, what an accepted call of fresh leaves is the board from which the runs start
+pub from-fresh : (j : Panel) (old left : Board) → Freshens (j .rows) (j .cols) (tilesIn (j .tiles)) old Done left → left ≡ fresh j
+from-fresh j old left f = was-written _ _ _ f .1
+
+-- the theorem for the panels of the calls, whose grid is flat
+pub flat-stands : (rows cols : ℕ) (tiles : List ℕ) (offset : Offset) (calls : List Call)
+    → let j = panel rows cols tiles offset in run j (fresh j) calls ≡ boardOf (shapeOf j) (j .tiles) (told j (acceptedIn j (fresh j) calls))
+flat-stands rows cols tiles offset = stands (panel rows cols tiles offset) (flat-sound rows cols)

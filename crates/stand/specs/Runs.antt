@@ -14,7 +14,7 @@ use Rattle.rules.specs.Bounds.{bare}
 use Rattle.rules.specs.Tests.{tilesIn}
 use Rattle.rules.specs.Places.{samePlace}
 use Rattle.rules.specs.Grid.{cellWith, laidOn, colourOn}
-use Rattle.rules.specs.Board.{Panel, shapeOf, cellIn, Board, freshBoard, laid, layChecks, liftChecks, afterLay, afterLift}
+use Rattle.rules.specs.Board.{Panel, shapeOf, numberIn, Board, freshBoard, laid, layChecks, liftChecks, afterLay, afterLift}
 use Rattle.rules.specs.declared.World.{World}
 use Rattle.rules.specs.declared.Cell.{Cell}
 
@@ -60,8 +60,8 @@ acceptedIn j b (c ∷ calls) =
 
 -- a lay says that its colour stands there, a lift that its cell is bare
 abbrev pub says : Panel → List ℕ → Call → List ℕ
-says j pieces (lay count w colour) = set pieces (cellIn j w) (colour + 1)
-says j pieces (lift count w) = set pieces (cellIn j w) bare
+says j pieces (lay count w colour) = set pieces (numberIn j w) (colour + 1)
+says j pieces (lift count w) = set pieces (numberIn j w) bare
 
 -- what the calls say one after the other, of a board that was bare
 unfoldable pub told : Panel → List Call → List ℕ
@@ -101,7 +101,7 @@ pub data Reordered : List Piece → List Piece → Type 0 where
 
 -- each piece laid by the rule alone, without the checks of a call
 unfoldable pub laidAll : Panel → Board → List Piece → Board
-laidAll j b pieces = fold (λ c p. laid (shapeOf j) (j .tiles) c (cellIn j (p .place)) (p .colour)) b pieces
+laidAll j b pieces = fold (λ c p. laid (shapeOf j) (j .tiles) c (numberIn j (p .place)) (p .colour)) b pieces
 
 -- one call of lay for each piece, all of which name so many colours
 unfoldable pub lays : ℕ → List Piece → List Call

@@ -1,4 +1,3 @@
-pub mod Fitting
 pub mod Accepted
 pub mod Kept
 pub mod Lists

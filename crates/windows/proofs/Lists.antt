@@ -29,7 +29,7 @@ use Rattle.pattern.specs.Words.{shownBy}
 use Rattle.pattern.proofs.Windows.{read-is}
 use Rattle.windows.specs.Kept.{Keeps}
 use Rattle.windows.proofs.Kept.{none-has, keeps-all, keeps-ext, keeps-both, keeps-rest, keeps-none}
-use Rattle.windows.proofs.Fitting.{has-ext}
+use Rattle.rules.proofs.Fitting.{has-ext}
 
 pub few-lt : (n x : ℕ) (f : ℕ → Bool) → n ≤ maxColours → x ≡ bitsOf n f → x < 2 ^ maxColours
 few-lt n x f few e = rw e (lt-of-lt-of-le (bits-lt n f) (pow-mono {i = n} {j = maxColours} few))

@@ -53,7 +53,7 @@ same-length-3 : tie.Need-same-length-3
 same-length-3 c = search needs
 
 returns-3 : tie.Need-returns-3
-returns-3 c = 
+returns-3 c =
     let k = c .before .before .before .before in
     done _ _ _ (made k) (c .before .before .recount-near .ensures ∙ recounted-is _ _ _ _ _ _ (leans k .on) (nearby _ _ _ _ _ _ _ (k .before .down .given .1) (k .before .before .before .near-spans .ensures)) _ _)
 

@@ -12,7 +12,7 @@ use Rattle.recount.proofs.recount_near.Statement.{statement}
 use Rattle.recount.proofs.recount_near.Tie as tie
 
 abbrev Inv-loop : tie.InvT-loop
-Inv-loop counts₀ pieces rows cols tiles down across row₀ counts row = 
+Inv-loop counts₀ pieces rows cols tiles down across row₀ counts row =
     RowsDone 0 (recountedBy (flat rows cols) cols tiles pieces) cols (down .0) (down .1) (across .0) (across .1) counts₀ counts row
 
 abbrev μ-loop : tie.MeasureT-loop
@@ -28,7 +28,7 @@ room c =
     omega (arith, row-room 0 (recountedBy (flat (a .rows) (a .cols)) (a .cols) (a .tiles .now) (a .pieces .now)) _ _ _ _ _ _ (s .pre .0 .region) (l .inv) (c .if1 .taken), l .inv .long)
 
 loop-holds : tie.Need-loop-holds Inv-loop μ-loop
-loop-holds c = 
+loop-holds c =
     let s = c .before .before .before in let a = s .args in region-start 0 (recountedBy (flat (a .rows) (a .cols)) (a .cols) (a .tiles .now) (a .pieces .now)) _ _ _ _ _ _ (s .pre .0 .region)
 
 mul-from : tie.Need-mul-from Inv-loop μ-loop
@@ -56,7 +56,7 @@ part-recount-row-end : tie.Need-part-recount-row-end Inv-loop μ-loop
 part-recount-row-end c = omega (arith, room (c .before .before), c .before .before .before .before .loop .inv .long, c .before .before .before .before .before .before .before .before .pre .0 .region)
 
 recount-row-requires : tie.Need-recount-row-requires Inv-loop μ-loop
-recount-row-requires c κs = 
+recount-row-requires c κs =
     let t = c .before .before .before in
     let l = t .before .before .loop in
     let s = t .before .before .before .before .before .before in
@@ -76,7 +76,7 @@ loop-less : tie.Need-loop-less Inv-loop μ-loop
 loop-less c = search needs
 
 loop-again : tie.Need-loop-again Inv-loop μ-loop
-loop-again c = 
+loop-again c =
     let k = c .before .before in
     let t = k .before .before .before .before in
     let l = t .before .before .loop in
@@ -90,7 +90,7 @@ same-length c = c .before .before .loop .inv .long
 
 returns : tie.Need-returns Inv-loop μ-loop
 unfolding recountedIn
-returns c = 
+returns c =
     let s = c .before .before .before .before .before .before in
     let a = s .args in
     region-done 0 (recountedBy (flat (a .rows) (a .cols)) (a .cols) (a .tiles .now) (a .pieces .now)) _ _ _ _ _ _ (s .pre .0 .region) (c .before .before .loop .inv) (c .if1 .left)

@@ -34,7 +34,7 @@ share-at-requires : tie.Need-share-at-requires Inv-loop μ-loop
 share-at-requires c κs = search needs
 
 add-part : tie.Need-add-part Inv-loop μ-loop
-add-part c = 
+add-part c =
     let l = c .before .before .before .loop in
     let a = c .before .before .before .before .before .args in
     record { fits = omega (arith, c .share-at .ensures, share-le (distance (a .cell) (cellAt (a .row) (a .left + l .j))), sweep-old (l .inv) (l .j) (omega arith) (search needs), c .before .before .before .before .before .pre .1 (l .j) (search needs)) }

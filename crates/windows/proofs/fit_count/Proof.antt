@@ -8,7 +8,8 @@ use Rattle.base.proofs.Counted.{tally-le}
 use Rattle.rules.specs.Tests.{tilesIn}
 use Rattle.rules.specs.Fit.{fitsTile, fitCount}
 use Rattle.pattern.specs.Words.{shownBy}
-use Rattle.windows.proofs.Fitting.{bare-fits, tally-turn, tally-done}
+use Rattle.base.proofs.Counted.{tally-turn, tally-done}
+use Rattle.rules.proofs.Fitting.{bare-fits}
 use borrow.Author.Needs.{needs}
 use Rattle.windows.proofs.fit_count.Statement.{statement}
 use Rattle.windows.proofs.fit_count.Tie as tie

@@ -1,7 +1,7 @@
 -- `windows::fit_count_at` meets its contract: the window is read, and its tiles counted. Assumes nothing.
 use mathlib.Core.Path.{_∙_}
 use Rattle.pattern.proofs.Windows.{read-is, read-masked}
-use Rattle.windows.proofs.Fitting.{count-ext}
+use Rattle.rules.proofs.Fitting.{count-ext}
 use borrow.Author.Needs.{needs}
 use Rattle.windows.proofs.fit_count_at.Statement.{statement}
 use Rattle.windows.proofs.fit_count_at.Tie as tie

@@ -1,20 +1,19 @@
--- Which tiles fit what a window shows, and how many.
---     fits-ext, count-ext, has-ext   windows that show the same fit the same tiles
---     tally-turn, tally-done    a loop that counts
---     bare-fits     every tile fits a bare window
+-- Which tiles fit a pattern, and how many.
+--     fits-ext, count-ext, has-ext   equal patterns are fitted by the same tiles
+--     bare-fits     every tile fits a bare pattern
+--     fit-low       no more tiles fit than there are
 -- Assumes nothing.
 use Prim.Native.Nat.{ℕ, _+_, _*_, _<_, _≤_}
-use mathlib.Core.Path.{_≡_, sym, _∙_, ap}
+use mathlib.Core.Path.{_≡_, sym, ap}
 use mathlib.Core.Bool.{Bool, true, _&&_}
 use mathlib.Core.List.{List}
-use native.Mathlib.Omega.{arith}
 use lib.Dec.{eqb}
 use lib.ListN.{getD}
-use Rattle.base.specs.Counting.{pick, every, tally}
+use Rattle.base.specs.Counting.{every}
 use Rattle.base.proofs.Bools.{or-left}
-use Rattle.base.proofs.Counted.{every-at, every-is, every-ext, some-ext, tally-all, tally-ext, tally-more}
+use Rattle.base.proofs.Counted.{every-at, every-is, every-ext, some-ext, tally-all, tally-ext, tally-le}
 use Rattle.rules.specs.Tests.{tilesIn}
 use Rattle.rules.specs.Fit.{agrees, agreesAt, fitsTile, fitCount, serves, hasFitting}
 
 module _ (tiles : List ℕ) (f g : ℕ → ℕ) (same : (i : ℕ) → i < 9 → f i ≡ g i) where
   pub fits-ext : (n : ℕ) → fitsTile tiles f n ≡ fitsTile tiles g n
@@ -30,17 +29,14 @@ module _ (tiles : List ℕ) (f g : ℕ → ℕ) (same : (i : ℕ) → i < 9 → 
   has-ext q t =
       some-ext (serves tiles f q t) (serves tiles g q t) (tilesIn tiles) (λ n l. ap (λ (b : Bool). b && eqb t (getD tiles (n * 9 + q) 0)) (fits-ext n))
 
--- one turn of a loop that counts, and its end
-pub tally-turn : {n sofar here : ℕ} {test : Bool} (f : ℕ → Bool) → sofar ≡ tally n f → test ≡ f n → here ≡ pick test 1 0 → sofar + here ≡ tally (n + 1) f
-tally-turn {n} f p q e = rw (p, e, q) (sym (tally-more f n))
-
-pub tally-done : {n i r : ℕ} (f : ℕ → Bool) → i ≤ n → n ≤ i → r ≡ tally i f → r ≡ tally n f
-tally-done {n} {i} f a b h = let e : i ≡ n = omega arith in h ∙ ap (λ (m : ℕ). tally m f) e
-
--- a bare window is one that every tile fits
+-- a bare pattern is one that every tile fits
 pub bare-fits : (tiles : List ℕ) (shown : ℕ → ℕ) → every 9 (λ i. eqb (shown i) 0) ≡ true → tilesIn tiles ≡ fitCount tiles shown
 unfolding fitCount fitsTile agrees
 bare-fits tiles shown e =
     sym
     (tally-all (fitsTile tiles shown) (tilesIn tiles)
     (λ n l. every-is (agreesAt tiles shown n) 9 (λ i m. or-left (eqb (shown i) 0) _ (every-at (λ i. eqb (shown i) 0) 9 e i m))))
+
+pub fit-low : (tiles : List ℕ) (shown : ℕ → ℕ) → fitCount tiles shown ≤ tilesIn tiles
+unfolding fitCount
+fit-low tiles shown = tally-le (fitsTile tiles shown) (tilesIn tiles)
