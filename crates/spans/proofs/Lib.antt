@@ -1,2 +1,3 @@
 pub mod Radius
+pub mod Spanned
 pub mod Coincide
