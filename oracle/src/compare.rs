@@ -11,7 +11,7 @@ pub mod tiles;
 
 use crate::calls::Refusal;
 use crate::inputs::{self, TileList};
-use crate::outcome::{Damage, Outcome, Plane, Value, set_damage};
+use crate::outcome::{Damage, Outcome, Value, set_damage};
 use crate::random::{Random, name_seed};
 use crate::record::{self, Parts};
 use std::fmt::Debug;
@@ -56,7 +56,7 @@ pub trait Input: Clone + Debug {
     fn observed(&self) -> Outcome;
 
     /// For the fixed list: the arguments of the port's exported function in their order, without the slices lent for its
-    /// answer. Nothing where there is no such function.
+    /// answer. Nothing of a step that the list does not have.
     fn arguments(&self) -> Option<Parts> {
         None
     }
@@ -65,14 +65,6 @@ pub trait Input: Clone + Debug {
     fn told(&self, answer: Option<&[Value]>) -> Parts {
         Parts::new().slice(answer.unwrap_or_default())
     }
-
-    /// For the fixed list: the planes that the call may write, in the slices that they are lent in.
-    fn left(&self, planes: &[Plane]) -> Parts {
-        planes.iter().fold(Parts::new(), Parts::plane)
-    }
-
-    /// For the fixed list: shortens what no call reads.
-    fn tidy(&mut self) {}
 }
 
 /// What there is to compare in a step: it decides which mutants it has.

@@ -37,7 +37,7 @@ const USE: &str = "differential: the text and the port on the same inputs
   --list         names the steps and the mutants
   --mutant NAME  disturbs the port's side of one comparison; a difference must show
   --mutants      each mutant in turn; fails unless every one is seen
-  --record DIR   writes the fixed list, a file for each step, to a folder that is there
+  --record DIR   writes the fixed list, a file for each of its steps, to a folder that is there
   --speed        times both sides, as Markdown; --colours N only those cases (4, 12, 30)";
 
 struct Options {

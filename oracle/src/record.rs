@@ -1,10 +1,11 @@
 //! The fixed list: a sample of the oracle's answers, written so that a program replays it with no Rust at hand.
 //!
-//! A file for each step, a record for each line. A record has the arguments of the port's exported function in their
+//! A file for the extraction of tiles, for each step on a board that has whole numbers alone, and for each function of
+//! the desk; a record for each line. A record has the arguments of the port's exported function in their
 //! order, without the slices lent for its answer; after `=` 0 or the refusal's number, what each slice lent for the
 //! answer then holds (nothing where the call is refused), and what each plane that the call may write then holds. The
 //! parts are kept apart by `|`; a part is a number, or the entries of a slice, in decimal. An i32 is written as the u32
-//! of the same bits, a float as its bits, a bool as 0 or 1.
+//! of the same bits, a bool as 0 or 1.
 
 use crate::calls::Refusal;
 use crate::compare::{Input, spoil};
@@ -58,18 +59,12 @@ impl Word for bool {
     }
 }
 
-impl Word for f64 {
-    fn word(self) -> u64 {
-        self.to_bits()
-    }
-}
-
 impl Word for Value {
     fn word(self) -> u64 {
         match self {
             Value::Whole(number) if number < 0 => i32::try_from(number).expect("an i32").word(),
             Value::Whole(number) => number as u64,
-            Value::Float(float) => float.word(),
+            Value::Float(float) => float.to_bits(),
         }
     }
 }
@@ -133,7 +128,7 @@ struct Line {
     numbers: usize,
 }
 
-/// The records of a step; none where no exported function answers it.
+/// The records of a step; none where the list does not have it.
 pub fn records<I: Input>(name: &str, step: I::Step, seed: u64) -> Vec<String> {
     let (mut accepted, mut refused) = (BTreeSet::new(), BTreeMap::new());
     let mut tiles = TileList::new(vec![1; 9], 1);
@@ -142,8 +137,7 @@ pub fn records<I: Input>(name: &str, step: I::Step, seed: u64) -> Vec<String> {
             tiles = few_tiles(&mut Random::new(&[seed, name_seed(name), number, 1]));
         }
         let mut random = Random::new(&[seed, name_seed(name), number, 2]);
-        let mut input = I::random(step, &mut random, &tiles);
-        input.tidy();
+        let input = I::random(step, &mut random, &tiles);
         for input in [spoil(&input, &mut random), input] {
             match record(step, &input) {
                 Some(Line { refused: Some(number), text, .. }) => _ = refused.entry(number).or_insert(text),
@@ -187,7 +181,7 @@ fn record<I: Input>(step: I::Step, input: &I) -> Option<Line> {
     if I::shows(step).answer {
         left.0.extend(input.told(outcome.answer.as_deref().ok()).0);
     }
-    left.0.extend(input.left(&outcome.planes).0);
+    left = outcome.planes.iter().fold(left, Parts::plane);
     let text = format!("{}={}", arguments.line(), left.line());
     let numbers = left.0.iter().flatten().collect::<BTreeSet<_>>().len();
     let fits = left.longest() <= LONGEST_SLICE && text.len() <= LONGEST_LINE;

@@ -1,15 +1,16 @@
 // The calls of the port for tests in another language: each hands its call the numbers and slices that it is given and tells its answer
 // as crate boundary does. Lay and lift are not among them: tests call the desk's.
 ghost use Rattle.rules.specs.Grid.{cellAt, flat};
-ghost use Rattle.rules.specs.Fit.{listing, regionCount};
+ghost use Rattle.rules.specs.Fit.{regionCount};
 ghost use Rattle.rules.specs.Forced.{deadEnd};
 ghost use Rattle.rules.specs.Places.{regionSpans};
 ghost use Rattle.rules.specs.Scores.{fractionAt};
 ghost use Rattle.rules.specs.Sets.{emptySet, fullSet, inserted, contained, intersected, emptiness, membersCounted};
-ghost use Rattle.rules.specs.Promises.{before, after, boardBefore, boardAfter, panel, Freshens, Raises, Lowers, Recounts};
+ghost use Rattle.rules.specs.Promises.{before, after, boardBefore, boardAfter, Freshens, Raises, Lowers};
 ghost use Rattle.slots.specs.Slots.{world, offsetBy, setFrom};
 ghost use Rattle.boundary.specs.Boundary.{Numbered, writtenNumber};
-ghost use Rattle.boundary.specs.Boundary.{TellsListing, TellsDeadEnd, TellsSpans, TellsSet, TellsVerdict, TellsCount, TellsFraction};
+ghost use Rattle.boundary.specs.Boundary.{TellsDeadEnd, TellsSpans, TellsSet, TellsVerdict, TellsCount, TellsFraction};
+ghost use Rattle.harness.specs.Harness.{PortLists, PortRecounts};
 use boundary::listed;
 use boundary::set_given;
 use boundary::told;
@@ -36,7 +37,7 @@ pub extern "C" fn port_listing(
     across: i32,
     out: &mut [u32],
 ) -> u32
-    ensures { λ r. ⌜ TellsListing (listing flat (before pieces) rows cols (before tiles) count (world row col) (offsetBy down across)) (before out) r (after out) ⌝ }
+    ensures { λ r. ⌜ PortLists (before pieces) rows cols (before tiles) count row col down across (before out) r (after out) ⌝ }
 {
     let position = world_at(row, col);
     let offset = offset_at(down, across);
@@ -250,7 +251,7 @@ pub extern "C" fn port_recount(
     down: i32,
     across: i32,
 ) -> u32
-    ensures { λ r. ⌜ Numbered writtenNumber (Recounts (panel rows cols (before tiles) (offsetBy down across)) count (world row col) (before pieces) (before counts)) r (after counts) ⌝ }
+    ensures { λ r. ⌜ PortRecounts rows cols (before tiles) count row col down across (before pieces) (before counts) r (after counts) ⌝ }
 {
     let position = world_at(row, col);
     let offset = offset_at(down, across);

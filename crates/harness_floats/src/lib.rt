@@ -1,10 +1,10 @@
 // The float steps for tests in another language: each hands its call the numbers and slices that it is given and tells its answer as crate
 // boundary does.
-ghost use Rattle.rules.specs.Probabilities.{normaliseChecks, normalised, probabilitiesAt, influenceChecks, multiplied, divided};
-ghost use Rattle.rules.specs.Scores.{layScoreChecks, layScores, liftScoreChecks, liftScores};
+ghost use Rattle.rules.specs.Promises.{before, after, Normalises, Multiplies, Divides, ScoresLay, ScoresLift};
 ghost use Rattle.influence.specs.Step.{blockOf};
 ghost use Rattle.slots.specs.Slots.{world, offsetBy};
-ghost use Rattle.harness_floats.specs.Told.{Told, spanFrom};
+ghost use Rattle.boundary.specs.Boundary.{Numbered, writtenNumber};
+ghost use Rattle.harness_floats.specs.Spans.{spanFrom};
 use boundary::written;
 use rules::Span;
 use slots::offset_at;
@@ -22,7 +22,8 @@ pub extern "C" fn port_normalise(
     across: i32,
     out: &mut [f64],
 ) -> u32
-    ensures { λ r. ⌜ Told (normaliseChecks (now (probabilities .entry)) rows cols count (world row col) (offsetBy down across) (now (out .entry))) (normalised (probabilitiesAt (now (probabilities .entry)) rows cols count (world row col) (offsetBy down across))) (now (out .entry)) r (now (out .exit)) ⌝ }
+    ensures { λ r. ⌜ Numbered writtenNumber (Normalises (before probabilities) rows cols count (world row col) (offsetBy down across)
+        (before out)) r (after out) ⌝ }
 {
     let position = world_at(row, col);
     let offset = offset_at(down, across);
@@ -53,7 +54,8 @@ pub extern "C" fn port_product(
     across: i32,
     radius: usize,
 ) -> u32
-    ensures { λ r. ⌜ Told (influenceChecks (now (probabilities .entry)) rows cols count (blockOf blockrows blockcols (now (block .entry))) (world row col) (offsetBy down across) radius) (multiplied rows cols (blockOf blockrows blockcols (now (block .entry))) (world row col) (offsetBy down across) radius (now (probabilities .entry))) (now (probabilities .entry)) r (now (probabilities .exit)) ⌝ }
+    ensures { λ r. ⌜ Numbered writtenNumber (Multiplies rows cols count (blockOf blockrows blockcols (before block)) (world row col) (offsetBy down across)
+        radius (before probabilities)) r (after probabilities) ⌝ }
 {
     let position = world_at(row, col);
     let offset = offset_at(down, across);
@@ -87,7 +89,8 @@ pub extern "C" fn port_quotient(
     across: i32,
     radius: usize,
 ) -> u32
-    ensures { λ r. ⌜ Told (influenceChecks (now (probabilities .entry)) rows cols count (blockOf blockrows blockcols (now (block .entry))) (world row col) (offsetBy down across) radius) (divided rows cols (blockOf blockrows blockcols (now (block .entry))) (world row col) (offsetBy down across) radius (now (probabilities .entry))) (now (probabilities .entry)) r (now (probabilities .exit)) ⌝ }
+    ensures { λ r. ⌜ Numbered writtenNumber (Divides rows cols count (blockOf blockrows blockcols (before block)) (world row col) (offsetBy down across)
+        radius (before probabilities)) r (after probabilities) ⌝ }
 {
     let position = world_at(row, col);
     let offset = offset_at(down, across);
@@ -118,7 +121,8 @@ pub extern "C" fn port_lay_score(
     down: i32,
     across: i32,
 ) -> u32
-    ensures { λ r. ⌜ Told (layScoreChecks (now (scores .entry)) (now (counts .entry)) rows cols tiles (world row col) (offsetBy down across)) (layScores rows cols (now (counts .entry)) tiles (world row col) (offsetBy down across) (now (scores .entry))) (now (scores .entry)) r (now (scores .exit)) ⌝ }
+    ensures { λ r. ⌜ Numbered writtenNumber (ScoresLay rows cols (before counts) tiles (world row col) (offsetBy down across)
+        (before scores)) r (after scores) ⌝ }
 {
     let position = world_at(row, col);
     let offset = offset_at(down, across);
@@ -138,7 +142,8 @@ pub extern "C" fn port_lift_score(
     colstart: usize,
     colend: usize,
 ) -> u32
-    ensures { λ r. ⌜ Told (liftScoreChecks (now (scores .entry)) (now (counts .entry)) rows cols tiles (spanFrom rowstart rowend) (spanFrom colstart colend)) (liftScores rows cols (now (counts .entry)) tiles (spanFrom rowstart rowend) (spanFrom colstart colend) (now (scores .entry))) (now (scores .entry)) r (now (scores .exit)) ⌝ }
+    ensures { λ r. ⌜ Numbered writtenNumber (ScoresLift rows cols (before counts) tiles (spanFrom rowstart rowend) (spanFrom colstart colend)
+        (before scores)) r (after scores) ⌝ }
 {
     let answer = scores::aggregate_feasibility(
         scores,

@@ -70,44 +70,48 @@ place-stored e i l m f g p q =
     (p ∙ ap (λ (z : ℤ). put l (2 * i) z) (same {z = e .coordinates .0} f))
     (same {z = e .coordinates .1} g)
 
-module _ (es : List ForcedPosition) where
-  pub places-none : (out : List ℤ) → out ≡ placesStored 0 es out
-  unfolding placesStored
-  places-none out = refl
+-- how far a loop that stores entries has come: the first i of them
+pub record Storing (es : List ForcedPosition) (i : ℕ) (cs : List ℤ) (ws : List ℕ) (cs′ : List ℤ) (ws′ : List ℕ) : Type 0 where
+  pub places : cs′ ≡ placesStored i es cs
+  pub colours : ws′ ≡ coloursStored i es ws
 
-  pub places-turn : (i : ℕ) (out so-far : List ℤ) {after : List ℤ} → so-far ≡ placesStored i es out
-      → after ≡ placeStored (getD es i noPosition) i so-far → after ≡ placesStored (i + 1) es out
-  unfolding placesStored
-  places-turn i out so-far p q = rw add-one (q ∙ ap (placeStored (getD es i noPosition) i) p)
+module _ (es : List ForcedPosition) (cs : List ℤ) (ws : List ℕ) where
+  pub none-stored : Storing es 0 cs ws cs ws
+  unfolding placesStored coloursStored
+  none-stored = record { places = refl; colours = refl }
 
-  pub places-long : (i : ℕ) (out : List ℤ) → length (placesStored i es out) ≡ length out
+  pub one-stored : (i : ℕ) {so-far cs′ : List ℤ} {up-to ws′ : List ℕ} → Storing es i cs ws so-far up-to
+      → (cs′ ≡ placeStored (getD es i noPosition) i so-far) × (ws′ ≡ put up-to i (getD es i noPosition .colour)) → Storing es (i + 1) cs ws cs′ ws′
+  unfolding placesStored coloursStored
+  one-stored i p q = record {
+    places = rw add-one (q .0 ∙ ap (placeStored (getD es i noPosition) i) (p .places));
+    colours = rw add-one (q .1 ∙ ap (λ (l : List ℕ). put l i (getD es i noPosition .colour)) (p .colours));
+  }
+
+  places-long : (i : ℕ) → length (placesStored i es cs) ≡ length cs
   unfolding placesStored
-  places-long zero out = refl
-  places-long (suc i) out =
+  places-long zero = refl
+  places-long (suc i) =
       let e = getD es i noPosition in
-      let l = placesStored i es out in
-      length-put (put l (2 * i) (e .coordinates .0)) (2 * i + 1) (e .coordinates .1) ∙ length-put l (2 * i) (e .coordinates .0) ∙ places-long i out
+      let l = placesStored i es cs in
+      length-put (put l (2 * i) (e .coordinates .0)) (2 * i + 1) (e .coordinates .1) ∙ length-put l (2 * i) (e .coordinates .0) ∙ places-long i
 
-  pub colours-none : (out : List ℕ) → out ≡ coloursStored 0 es out
+  colours-long : (i : ℕ) → length (coloursStored i es ws) ≡ length ws
   unfolding coloursStored
-  colours-none out = refl
+  colours-long zero = refl
+  colours-long (suc i) = length-put (coloursStored i es ws) i (getD es i noPosition .colour) ∙ colours-long i
 
-  pub colours-turn : (i : ℕ) (out so-far : List ℕ) {after : List ℕ} → so-far ≡ coloursStored i es out
-      → after ≡ put so-far i (getD es i noPosition .colour) → after ≡ coloursStored (i + 1) es out
-  unfolding coloursStored
-  colours-turn i out so-far p q = rw add-one (q ∙ ap (λ (l : List ℕ). put l i (getD es i noPosition .colour)) p)
+  pub keeps-places : (i : ℕ) {cs′ : List ℤ} {ws′ : List ℕ} → Storing es i cs ws cs′ ws′ → length cs′ ≡ length cs
+  keeps-places i p = ap length (p .places) ∙ places-long i
 
-  pub colours-long : (i : ℕ) (out : List ℕ) → length (coloursStored i es out) ≡ length out
-  unfolding coloursStored
-  colours-long zero out = refl
-  colours-long (suc i) out = length-put (coloursStored i es out) i (getD es i noPosition .colour) ∙ colours-long i out
+  pub keeps-colours : (i : ℕ) {cs′ : List ℤ} {ws′ : List ℕ} → Storing es i cs ws cs′ ws′ → length ws′ ≡ length ws
+  keeps-colours i p = ap length (p .colours) ∙ colours-long i
 
   -- all of them, and the length
-  pub all-stored : (room i n : ℕ) (cs : List ℤ) (ws ls : List ℕ) {cs′ : List ℤ} {ws′ ls′ : List ℕ} → i ≡ room
-      → cs′ ≡ placesStored i es cs → ws′ ≡ coloursStored i es ws → ls′ ≡ put ls 0 n
-      → slices cs′ ws′ ls′ ≡ stored room es n (slices cs ws ls)
+  pub all-stored : (room i n : ℕ) (ls : List ℕ) {cs′ : List ℤ} {ws′ ls′ : List ℕ} → i ≤ room → room ≤ i → Storing es i cs ws cs′ ws′
+      → ls′ ≡ put ls 0 n → slices cs′ ws′ ls′ ≡ stored room es n (slices cs ws ls)
   unfolding stored
-  all-stored room i n cs ws ls h p q r = rw (sym h, p, q, r)
+  all-stored room i n ls h k p r = let e : room ≡ i = omega arith in rw (e, p .places, p .colours, r)
 
 -- a refused call stores nothing
 pub left-alone : {A B : Type 0} (f : A → ℕ) (g : A → B → B) {a : A} (b : A) (l : B) {r : ℕ} → a ≡ b → f b ≡ r → g b l ≡ l → Gives (f a) (g a l) r l

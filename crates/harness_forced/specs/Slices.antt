@@ -1,5 +1,6 @@
 -- Queues and forced positions as slices: entry i has its row and column at 2i and 2i + 1 of the coordinates and its colour at i of the
--- colours; the length is a word of its own. An element that a slice does not have counts as 0, and nothing is stored past an end.
+-- colours; the length is a word of its own. An element that a slice does not have counts as 0, and nothing is stored past an end. The
+-- promises of functions that change such slices take them as they are lent, for what they hold before and after.
 use Prim.Native.Nat.{ℕ, zero, suc, _+_, _*_}
 use mathlib.Core.Bool.{Bool}
 use mathlib.Core.List.{List}
@@ -7,10 +8,13 @@ use lib.ListN.{getD}
 use lib.IntN.{ℤ, pos}
 use Rattle.base.specs.Counting.{pick}
 use Rattle.base.specs.Tables.{tab}
-use Rattle.base.specs.Refusal.{unlessRefused}
+use Rattle.base.specs.Refusal.{unlessRefused, Gives}
 use Rattle.rules.specs.Bounds.{queueRoom, addedRoom}
-use Rattle.rules.specs.Forced.{noPosition}
+use Rattle.rules.specs.Forced.{noPosition, forcedNeighbours, grownBy, takenFrom}
+use Rattle.rules.specs.Grid.{flat}
+use Rattle.rules.specs.Promises.{Lent, before, after}
 use Rattle.rules.specs.declared.World.{World}
+use Rattle.rules.specs.declared.Offset.{Offset}
 use Rattle.rules.specs.declared.GenerationBounds.{GenerationBounds}
 use Rattle.rules.specs.declared.GenerationBounds.the-variants.{Unbounded, Within}
 use Rattle.rules.specs.declared.ForcedPosition.{ForcedPosition}
@@ -24,6 +28,7 @@ use Rattle.rules.specs.declared.Next.the-variants as Next·
 use Rattle.rules.specs.declared.Written.{Written}
 use Rattle.rules.specs.declared.Written.the-variants as Written·
 use Rattle.slots.specs.Slots.{put, world}
+use Rattle.boundary.specs.Boundary.{writtenNumber}
 
 -- the slices that hold positions
 pub record Slices : Type 0 where
@@ -33,6 +38,12 @@ pub record Slices : Type 0 where
 
 abbrev pub slices : List ℤ → List ℕ → List ℕ → Slices
 slices coordinates colours len = record { coordinates = coordinates; colours = colours; len = len }
+
+abbrev pub slicesBefore : Lent (List ℤ) → Lent (List ℕ) → Lent (List ℕ) → Slices
+slicesBefore coordinates colours len = slices (before coordinates) (before colours) (before len)
+
+abbrev pub slicesAfter : Lent (List ℤ) → Lent (List ℕ) → Lent (List ℕ) → Slices
+slicesAfter coordinates colours len = slices (after coordinates) (after colours) (after len)
 
 -- ---- what goes in
 
@@ -88,6 +99,11 @@ addedLeft (Written·.Refused n) q s = s
 abbrev pub grownLeft : Grown → Slices → Slices
 grownLeft g s = addedLeft (g .answer) (g .queue) s
 
+abbrev pub PortAdds : ForcedPositions → Lent (List ℤ) → Lent (List ℕ) → Lent (List ℕ) → ℕ → Type 0
+PortAdds added coordinates colours len r =
+    let held = slicesBefore coordinates colours len in
+    Gives (writtenNumber (grownBy (queueIn held) added .answer)) (grownLeft (grownBy (queueIn held) added) held) r (slicesAfter coordinates colours len)
+
 -- taking: the queue as it is then, the place and the colour that were taken, and 1; or 0 where nothing waits
 pub record Taking : Type 0 where
   pub queue : Slices
@@ -116,9 +132,24 @@ nextLeft (Next·.Refused n) q t = t
 abbrev pub takenLeft : Taken → Taking → Taking
 takenLeft k t = nextLeft (k .next) (k .queue) t
 
+abbrev pub TellsNext : Next → ForcedPipeline → Lent (List ℤ) → Lent (List ℕ) → Lent (List ℕ) → Lent (List ℤ) → Lent (List ℕ) → Lent (List ℕ) → ℕ → Type 0
+TellsNext next queue coordinates colours len taken colour found r =
+    Gives (nextNumber next) (nextLeft next queue (taking (slicesBefore coordinates colours len) (before taken) (before colour) (before found)))
+    r (taking (slicesAfter coordinates colours len) (after taken) (after colour) (after found))
+
+abbrev pub PortTakes : Lent (List ℤ) → Lent (List ℕ) → Lent (List ℕ) → Lent (List ℤ) → Lent (List ℕ) → Lent (List ℕ) → ℕ → Type 0
+PortTakes coordinates colours len =
+    let k = takenFrom (queueIn (slicesBefore coordinates colours len)) in
+    TellsNext (k .next) (k .queue) coordinates colours len
+
 -- forced neighbours: the positions that were found; a refused call stores nothing
 abbrev pub foundLeft : ℕ → ForcedPositions → Slices → Slices
 foundLeft refused found s = unlessRefused refused (positionsStored found s) s
 
 abbrev pub forcedLeft : ForcedAnswer → Slices → Slices
 forcedLeft a s = foundLeft (a .refused) (a .found) s
+
+abbrev pub PortForces : List ℕ → ℕ → ℕ → List ℕ → ℕ → World → Offset → GenerationBounds → Lent (List ℤ) → Lent (List ℕ) → Lent (List ℕ) → ℕ → Type 0
+PortForces pieces rows cols tiles count w o bounds coordinates colours len r =
+    let answer = forcedNeighbours flat pieces rows cols tiles count w o bounds in
+    Gives (answer .refused) (forcedLeft answer (slicesBefore coordinates colours len)) r (slicesAfter coordinates colours len)

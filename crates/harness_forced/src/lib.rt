@@ -1,10 +1,10 @@
 // Forced neighbours and the queue for tests in another language: each function hands its call the numbers and slices that it is given
 // and tells its answer as crate boundary does. Positions cross as specs/Slices.antt has them.
-ghost use Rattle.base.specs.Refusal.{Gives};
-ghost use Rattle.rules.specs.Forced.{forcedNeighbours, grownBy, takenFrom, queueEmpty, queueLength};
+ghost use Rattle.rules.specs.Forced.{queueEmpty, queueLength};
+ghost use Rattle.rules.specs.Promises.{before, after};
 ghost use Rattle.slots.specs.Slots.{world, offsetBy};
-ghost use Rattle.boundary.specs.Boundary.{verdictNumber, verdictLeft, countNumber, countLeft, writtenNumber};
-ghost use Rattle.harness_forced.specs.Slices.{queueFrom, positionsFrom, boundsFrom, slices, queueIn, grownLeft, taking, nextNumber, takenLeft, forcedLeft};
+ghost use Rattle.boundary.specs.Boundary.{TellsVerdict, TellsCount};
+ghost use Rattle.harness_forced.specs.Slices.{queueFrom, positionsFrom, boundsFrom, PortForces, PortAdds, PortTakes};
 use boundary::told;
 use longs::counted;
 use slots::offset_at;
@@ -33,7 +33,8 @@ pub extern "C" fn port_forced(
     colours: &mut [u32],
     len: &mut [u64],
 ) -> u32
-    ensures { λ r. ⌜ Gives ((forcedNeighbours (now (pieces .entry)) rows cols (now (tiles .entry)) count (world row col) (offsetBy down across) (boundsFrom within (world minrow mincol) (world maxrow maxcol))) .refused) (forcedLeft (forcedNeighbours (now (pieces .entry)) rows cols (now (tiles .entry)) count (world row col) (offsetBy down across) (boundsFrom within (world minrow mincol) (world maxrow maxcol))) (slices (now (coordinates .entry)) (now (colours .entry)) (now (len .entry)))) r (slices (now (coordinates .exit)) (now (colours .exit)) (now (len .exit))) ⌝ }
+    ensures { λ r. ⌜ PortForces (before pieces) rows cols (before tiles) count (world row col) (offsetBy down across)
+        (boundsFrom within (world minrow mincol) (world maxrow maxcol)) coordinates colours len r ⌝ }
 {
     let position = world_at(row, col);
     let offset = offset_at(down, across);
@@ -63,7 +64,7 @@ pub extern "C" fn port_queue_add(
     addedcolours: &[u32],
     addedlen: usize,
 ) -> u32
-    ensures { λ r. ⌜ Gives (writtenNumber ((grownBy (queueIn (slices (now (coordinates .entry)) (now (colours .entry)) (now (len .entry)))) (positionsFrom (now (addedcoordinates .entry)) (now (addedcolours .entry)) addedlen)) .answer)) (grownLeft (grownBy (queueIn (slices (now (coordinates .entry)) (now (colours .entry)) (now (len .entry)))) (positionsFrom (now (addedcoordinates .entry)) (now (addedcolours .entry)) addedlen)) (slices (now (coordinates .entry)) (now (colours .entry)) (now (len .entry)))) r (slices (now (coordinates .exit)) (now (colours .exit)) (now (len .exit))) ⌝ }
+    ensures { λ r. ⌜ PortAdds (positionsFrom (before addedcoordinates) (before addedcolours) addedlen) coordinates colours len r ⌝ }
 {
     let n = slices::length_at(len);
     let queue = slices::queue_from(coordinates, colours, n);
@@ -83,7 +84,7 @@ pub extern "C" fn port_queue_take(
     colour: &mut [u32],
     found: &mut [u32],
 ) -> u32
-    ensures { λ r. ⌜ Gives (nextNumber ((takenFrom (queueIn (slices (now (coordinates .entry)) (now (colours .entry)) (now (len .entry))))) .next)) (takenLeft (takenFrom (queueIn (slices (now (coordinates .entry)) (now (colours .entry)) (now (len .entry))))) (taking (slices (now (coordinates .entry)) (now (colours .entry)) (now (len .entry))) (now (taken .entry)) (now (colour .entry)) (now (found .entry)))) r (taking (slices (now (coordinates .exit)) (now (colours .exit)) (now (len .exit))) (now (taken .exit)) (now (colour .exit)) (now (found .exit))) ⌝ }
+    ensures { λ r. ⌜ PortTakes coordinates colours len taken colour found r ⌝ }
 {
     let n = slices::length_at(len);
     let queue = slices::queue_from(coordinates, colours, n);
@@ -100,7 +101,7 @@ pub extern "C" fn port_queue_is_empty(
     len: usize,
     out: &mut [u32],
 ) -> u32
-    ensures { λ r. ⌜ Gives (verdictNumber (queueEmpty (queueFrom (now (coordinates .entry)) (now (colours .entry)) len))) (verdictLeft (queueEmpty (queueFrom (now (coordinates .entry)) (now (colours .entry)) len)) (now (out .entry))) r (now (out .exit)) ⌝ }
+    ensures { λ r. ⌜ TellsVerdict (queueEmpty (queueFrom (before coordinates) (before colours) len)) (before out) r (after out) ⌝ }
 {
     let queue = slices::queue_from(coordinates, colours, len);
     let answer = queue::is_empty(queue);
@@ -114,7 +115,7 @@ pub extern "C" fn port_queue_len(
     len: usize,
     out: &mut [u64],
 ) -> u32
-    ensures { λ r. ⌜ Gives (countNumber (queueLength (queueFrom (now (coordinates .entry)) (now (colours .entry)) len))) (countLeft (queueLength (queueFrom (now (coordinates .entry)) (now (colours .entry)) len)) (now (out .entry))) r (now (out .exit)) ⌝ }
+    ensures { λ r. ⌜ TellsCount (queueLength (queueFrom (before coordinates) (before colours) len)) (before out) r (after out) ⌝ }
 {
     let queue = slices::queue_from(coordinates, colours, len);
     let answer = queue::len(queue);

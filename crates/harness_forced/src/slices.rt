@@ -5,9 +5,11 @@ ghost use lib.ListN.{getD};
 ghost use lib.IntN.{pos};
 ghost use Rattle.rules.specs.Bounds.{queueRoom};
 ghost use Rattle.base.specs.Refusal.{Gives};
+ghost use Rattle.rules.specs.Promises.{before, after};
 ghost use Rattle.slots.specs.Slots.{put};
 ghost use Rattle.boundary.specs.Boundary.{writtenNumber};
-ghost use Rattle.harness_forced.specs.Slices.{entryAt, queueFrom, positionsFrom, boundsFrom, slices, placeStored, queueStored, positionsStored, addedLeft, taking, nextNumber, nextLeft, foundLeft};
+ghost use Rattle.harness_forced.specs.Slices.{entryAt, queueFrom, positionsFrom, boundsFrom, slicesBefore, slicesAfter};
+ghost use Rattle.harness_forced.specs.Slices.{placeStored, queueStored, positionsStored, addedLeft, TellsNext, foundLeft};
 use rules::BoundingBox;
 use rules::ForcedPipeline;
 use rules::ForcedPosition;
@@ -21,7 +23,7 @@ use slots::put_signed;
 use slots::put_word;
 
 fn signed_at(words: &[i32], at: usize) -> i32
-    ensures { λ r. ⌜ r ≡ getD (now (words .entry)) at (pos 0) ⌝ }
+    ensures { λ r. ⌜ r ≡ getD (before words) at (pos 0) ⌝ }
 {
     if at < words.len() {
         return words[at];
@@ -30,7 +32,7 @@ fn signed_at(words: &[i32], at: usize) -> i32
 }
 
 fn word_at(words: &[u32], at: usize) -> u32
-    ensures { λ r. ⌜ r ≡ getD (now (words .entry)) at 0 ⌝ }
+    ensures { λ r. ⌜ r ≡ getD (before words) at 0 ⌝ }
 {
     if at < words.len() {
         return words[at];
@@ -40,7 +42,7 @@ fn word_at(words: &[u32], at: usize) -> u32
 
 fn entry_at(coordinates: &[i32], colours: &[u32], i: usize) -> ForcedPosition
     requires { ⌜ i < queueRoom ⌝ }
-    ensures { λ r. ⌜ r ≡ entryAt (now (coordinates .entry)) (now (colours .entry)) i ⌝ }
+    ensures { λ r. ⌜ r ≡ entryAt (before coordinates) (before colours) i ⌝ }
 {
     let row = signed_at(coordinates, 2 * i);
     let col = signed_at(coordinates, 2 * i + 1);
@@ -52,7 +54,7 @@ fn entry_at(coordinates: &[i32], colours: &[u32], i: usize) -> ForcedPosition
 }
 
 pub fn queue_from(coordinates: &[i32], colours: &[u32], len: usize) -> ForcedPipeline
-    ensures { λ r. ⌜ r ≡ queueFrom (now (coordinates .entry)) (now (colours .entry)) len ⌝ }
+    ensures { λ r. ⌜ r ≡ queueFrom (before coordinates) (before colours) len ⌝ }
 {
     let none = queue::new();
     let mut entries = none.entries;
@@ -65,7 +67,7 @@ pub fn queue_from(coordinates: &[i32], colours: &[u32], len: usize) -> ForcedPip
 }
 
 pub fn positions_from(coordinates: &[i32], colours: &[u32], len: usize) -> ForcedPositions
-    ensures { λ r. ⌜ r ≡ positionsFrom (now (coordinates .entry)) (now (colours .entry)) len ⌝ }
+    ensures { λ r. ⌜ r ≡ positionsFrom (before coordinates) (before colours) len ⌝ }
 {
     let none = ForcedPosition {
         coordinates: World(0, 0),
@@ -82,7 +84,7 @@ pub fn positions_from(coordinates: &[i32], colours: &[u32], len: usize) -> Force
 
 // The word that holds a length; 0 where there is none.
 pub fn length_at(words: &[u64]) -> usize
-    ensures { λ r. ⌜ r ≡ getD (now (words .entry)) 0 0 ⌝ }
+    ensures { λ r. ⌜ r ≡ getD (before words) 0 0 ⌝ }
 {
     if 0 < words.len() {
         return words[0] as usize;
@@ -93,7 +95,7 @@ pub fn length_at(words: &[u64]) -> usize
 // The place and the colour of entry i.
 fn put_entry(entry: ForcedPosition, i: usize, coordinates: &mut [i32], colours: &mut [u32])
     requires { ⌜ i < queueRoom ⌝ }
-    ensures { λ _. ⌜ (now (coordinates .exit) ≡ placeStored entry i (now (coordinates .entry))) × (now (colours .exit) ≡ put (now (colours .entry)) i (entry .colour)) ⌝ }
+    ensures { λ _. ⌜ (after coordinates ≡ placeStored entry i (before coordinates)) × (after colours ≡ put (before colours) i (entry .colour)) ⌝ }
 {
     let place = entry.coordinates;
     put_signed(coordinates, 2 * i, place.0);
@@ -107,7 +109,7 @@ pub fn put_queue(
     colours: &mut [u32],
     len: &mut [u64],
 )
-    ensures { λ _. ⌜ slices (now (coordinates .exit)) (now (colours .exit)) (now (len .exit)) ≡ queueStored queue (slices (now (coordinates .entry)) (now (colours .entry)) (now (len .entry))) ⌝ }
+    ensures { λ _. ⌜ slicesAfter coordinates colours len ≡ queueStored queue (slicesBefore coordinates colours len) ⌝ }
 {
     let entries = queue.entries;
     let mut i = 0;
@@ -125,7 +127,7 @@ pub fn put_positions(
     colours: &mut [u32],
     len: &mut [u64],
 )
-    ensures { λ _. ⌜ slices (now (coordinates .exit)) (now (colours .exit)) (now (len .exit)) ≡ positionsStored positions (slices (now (coordinates .entry)) (now (colours .entry)) (now (len .entry))) ⌝ }
+    ensures { λ _. ⌜ slicesAfter coordinates colours len ≡ positionsStored positions (slicesBefore coordinates colours len) ⌝ }
 {
     let entries = positions.entries;
     let mut i = 0;
@@ -159,7 +161,7 @@ pub fn added_given(
     colours: &mut [u32],
     len: &mut [u64],
 ) -> u32
-    ensures { λ r. ⌜ Gives (writtenNumber answer) (addedLeft answer queue (slices (now (coordinates .entry)) (now (colours .entry)) (now (len .entry)))) r (slices (now (coordinates .exit)) (now (colours .exit)) (now (len .exit))) ⌝ }
+    ensures { λ r. ⌜ Gives (writtenNumber answer) (addedLeft answer queue (slicesBefore coordinates colours len)) r (slicesAfter coordinates colours len) ⌝ }
 {
     match answer {
         Written::Done => {
@@ -172,7 +174,8 @@ pub fn added_given(
 
 // The position that is taken, and that there is one.
 fn put_taken(position: ForcedPosition, taken: &mut [i32], colour: &mut [u32], found: &mut [u32])
-    ensures { λ _. ⌜ (now (taken .exit) ≡ placeStored position 0 (now (taken .entry))) × (now (colour .exit) ≡ put (now (colour .entry)) 0 (position .colour)) × (now (found .exit) ≡ put (now (found .entry)) 0 1) ⌝ }
+    ensures { λ _. ⌜ (after taken ≡ placeStored position 0 (before taken)) × (after colour ≡ put (before colour) 0 (position .colour))
+        × (after found ≡ put (before found) 0 1) ⌝ }
 {
     put_entry(position, 0, taken, colour);
     put_word(found, 0, 1);
@@ -189,7 +192,7 @@ pub fn taken_given(
     colour: &mut [u32],
     found: &mut [u32],
 ) -> u32
-    ensures { λ r. ⌜ Gives (nextNumber next) (nextLeft next queue (taking (slices (now (coordinates .entry)) (now (colours .entry)) (now (len .entry))) (now (taken .entry)) (now (colour .entry)) (now (found .entry)))) r (taking (slices (now (coordinates .exit)) (now (colours .exit)) (now (len .exit))) (now (taken .exit)) (now (colour .exit)) (now (found .exit))) ⌝ }
+    ensures { λ r. ⌜ TellsNext next queue coordinates colours len taken colour found r ⌝ }
 {
     match next {
         Next::Taken(position) => {
@@ -214,7 +217,7 @@ pub fn forced_given(
     colours: &mut [u32],
     len: &mut [u64],
 ) -> u32
-    ensures { λ r. ⌜ Gives refused (foundLeft refused found (slices (now (coordinates .entry)) (now (colours .entry)) (now (len .entry)))) r (slices (now (coordinates .exit)) (now (colours .exit)) (now (len .exit))) ⌝ }
+    ensures { λ r. ⌜ Gives refused (foundLeft refused found (slicesBefore coordinates colours len)) r (slicesAfter coordinates colours len) ⌝ }
 {
     if refused != 0 {
         return refused as u32;

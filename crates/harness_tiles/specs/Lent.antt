@@ -1,11 +1,15 @@
 -- What crosses beyond the own of crates slots and boundary: a box and pads from their numbers, a tile from a slice, and what an extension,
--- a list of colours and a store of tiles leave in the slices lent for them.
+-- a list of colours and a store of tiles leave in the slices lent for them. The promises of functions that tell such an answer take these
+-- slices as they are lent, for what they hold before and after.
 use Prim.Native.Nat.{ℕ, _+_}
+use mathlib.Core.Bool.{Bool}
 use mathlib.Core.List.{List, [], _∷_}
 use lib.ListN.{getD}
 use lib.IntN.{ℤ}
 use Rattle.base.specs.Tables.{tab}
-use Rattle.base.specs.Refusal.{unlessRefused}
+use Rattle.base.specs.Refusal.{unlessRefused, Gives}
+use Rattle.rules.specs.Promises.{Lent, before, after}
+use Rattle.rules.specs.Tiles.{extraction, storeAfter}
 use Rattle.rules.specs.declared.BoundingBox.{BoundingBox}
 use Rattle.rules.specs.declared.Offset.{Offset}
 use Rattle.rules.specs.declared.Pads.{Pads}
@@ -13,6 +17,7 @@ use Rattle.rules.specs.declared.ColourList.{ColourList}
 use Rattle.rules.specs.declared.ExtensionAnswer.{ExtensionAnswer}
 use Rattle.rules.specs.declared.ExtensionAnswer.the-variants as ExtensionAnswer·
 use Rattle.slots.specs.Slots.{world, put, digitOf}
+use Rattle.boundary.specs.Boundary.{tilesNumber, tilesLeft}
 
 -- ---- what goes in
 
@@ -63,6 +68,11 @@ extensionLeft (ExtensionAnswer·.Extension e) out =
     extended (padsStored (e .pads) (out .pads)) (offsetStored (e .offset) (out .offset)) (put (out .needed) 0 (digitOf (e .needed)))
 extensionLeft (ExtensionAnswer·.Refused n) out = out
 
+abbrev pub TellsExtension : ExtensionAnswer → Lent (List ℕ) → Lent (List ℤ) → Lent (List ℕ) → ℕ → Type 0
+TellsExtension answer pads offset needed r =
+    Gives (extensionNumber answer) (extensionLeft answer (extended (before pads) (before offset) (before needed)))
+    r (extended (after pads) (after offset) (after needed))
+
 -- the slices lent for bytes and for their number
 pub record Bytes : Type 0 where
   pub bytes : List ℕ
@@ -75,3 +85,13 @@ bytesWith bytes number = record { bytes = bytes; number = number }
 abbrev pub listLeft : ColourList → Bytes → Bytes
 listLeft l out =
     unlessRefused (l .refused) (bytesWith (putFrom 0 (l .colours) (out .bytes)) (put (out .number) 0 (l .len))) out
+
+abbrev pub TellsColours : ColourList → Lent (List ℕ) → Lent (List ℕ) → ℕ → Type 0
+TellsColours l colours len r = Gives (l .refused) (listLeft l (bytesWith (before colours) (before len))) r (bytesWith (after colours) (after len))
+
+-- an extraction: the store as it is left, and the number of tiles
+abbrev pub PortExtracts : List ℕ → ℕ → ℕ → ℕ → Bool → Bool → Lent (List ℕ) → Lent (List ℕ) → ℕ → Type 0
+PortExtracts sample rows cols count rotations reflections store out r =
+    let answer = extraction sample rows cols count rotations reflections (before store) in
+    Gives (tilesNumber answer) (bytesWith (storeAfter sample rows cols count rotations reflections (before store)) (tilesLeft answer (before out)))
+    r (bytesWith (after store) (after out))

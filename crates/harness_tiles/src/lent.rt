@@ -2,8 +2,8 @@
 // slices. An entry past the end of a slice is not stored; a refused call stores none.
 ghost use mathlib.Core.Path.{_≡_};
 ghost use lib.ListN.{getD};
-ghost use Rattle.base.specs.Refusal.{Gives};
-ghost use Rattle.harness_tiles.specs.Lent.{boxOf, nineOf, putFrom, padsStored, offsetStored, extended, extensionNumber, extensionLeft, bytesWith, listLeft};
+ghost use Rattle.rules.specs.Promises.{before, after};
+ghost use Rattle.harness_tiles.specs.Lent.{boxOf, nineOf, putFrom, padsStored, offsetStored, TellsExtension, TellsColours};
 use rules::BoundingBox;
 use rules::ColourList;
 use rules::ExtensionAnswer;
@@ -26,13 +26,13 @@ pub fn box_at(minrow: i32, mincol: i32, maxrow: i32, maxcol: i32) -> BoundingBox
 }
 
 fn byte_at(bytes: &[u8], at: usize) -> u8
-    ensures { λ r. ⌜ r ≡ getD (now (bytes .entry)) at 0 ⌝ }
+    ensures { λ r. ⌜ r ≡ getD (before bytes) at 0 ⌝ }
 {
     if at < bytes.len() { bytes[at] } else { 0 }
 }
 
 pub fn tile_of(bytes: &[u8]) -> [u8; rules::TILE_CELLS]
-    ensures { λ r. ⌜ r ≡ nineOf (now (bytes .entry)) ⌝ }
+    ensures { λ r. ⌜ r ≡ nineOf (before bytes) ⌝ }
 {
     let mut tile = [0u8; rules::TILE_CELLS];
     let mut k = 0;
@@ -44,7 +44,7 @@ pub fn tile_of(bytes: &[u8]) -> [u8; rules::TILE_CELLS]
 }
 
 pub fn put_bytes(out: &mut [u8], bytes: &[u8])
-    ensures { λ _. ⌜ now (out .exit) ≡ putFrom 0 (now (bytes .entry)) (now (out .entry)) ⌝ }
+    ensures { λ _. ⌜ after out ≡ putFrom 0 (before bytes) (before out) ⌝ }
 {
     let mut k = 0;
     while k < bytes.len() {
@@ -54,7 +54,7 @@ pub fn put_bytes(out: &mut [u8], bytes: &[u8])
 }
 
 fn put_pads(out: &mut [u64], pads: Pads)
-    ensures { λ _. ⌜ now (out .exit) ≡ padsStored pads (now (out .entry)) ⌝ }
+    ensures { λ _. ⌜ after out ≡ padsStored pads (before out) ⌝ }
 {
     put_long(out, 0, pads.left as u64);
     put_long(out, 1, pads.right as u64);
@@ -63,7 +63,7 @@ fn put_pads(out: &mut [u64], pads: Pads)
 }
 
 fn put_offset(out: &mut [i32], offset: Offset)
-    ensures { λ _. ⌜ now (out .exit) ≡ offsetStored offset (now (out .entry)) ⌝ }
+    ensures { λ _. ⌜ after out ≡ offsetStored offset (before out) ⌝ }
 {
     put_signed(out, 0, offset.0);
     put_signed(out, 1, offset.1);
@@ -75,7 +75,7 @@ pub fn extension_told(
     offset: &mut [i32],
     needed: &mut [u32],
 ) -> u32
-    ensures { λ r. ⌜ Gives (extensionNumber answer) (extensionLeft answer (extended (now (pads .entry)) (now (offset .entry)) (now (needed .entry)))) r (extended (now (pads .exit)) (now (offset .exit)) (now (needed .exit))) ⌝ }
+    ensures { λ r. ⌜ TellsExtension answer pads offset needed r ⌝ }
 {
     match answer {
         ExtensionAnswer::Extension(info) => {
@@ -90,7 +90,7 @@ pub fn extension_told(
 }
 
 pub fn colours_told(list: ColourList, colours: &mut [u8], len: &mut [u64]) -> u32
-    ensures { λ r. ⌜ Gives (list .refused) (listLeft list (bytesWith (now (colours .entry)) (now (len .entry)))) r (bytesWith (now (colours .exit)) (now (len .exit))) ⌝ }
+    ensures { λ r. ⌜ TellsColours list colours len r ⌝ }
 {
     if list.refused != 0 {
         return list.refused as u32;

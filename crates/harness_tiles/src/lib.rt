@@ -1,14 +1,13 @@
 // The calls on places, tiles and sets for tests in another language: each hands its call the numbers and slices that it is given and
 // tells its answer as crate boundary does.
 ghost use mathlib.Core.Path.{_≡_};
-ghost use Rattle.base.specs.Refusal.{Gives, refusal};
-ghost use Rattle.rules.specs.Answers.{writtenAnswer};
-ghost use Rattle.rules.specs.Places.{boxContains, extensionOf, boxedExtension, wordCopyChecks, floatCopyChecks, afterWordCopy, afterFloatCopy};
+ghost use Rattle.rules.specs.Places.{boxContains, extensionOf, boxedExtension};
 ghost use Rattle.rules.specs.Sets.{membersListed};
-ghost use Rattle.rules.specs.Tiles.{rotated, reflected, membership, extraction, storeAfter};
+ghost use Rattle.rules.specs.Tiles.{rotated, reflected, membership};
+ghost use Rattle.rules.specs.Promises.{before, after, CopiesWords, CopiesFloats};
 ghost use Rattle.slots.specs.Slots.{world, offsetBy, setFrom};
-ghost use Rattle.boundary.specs.Boundary.{setNumber, setLeft, verdictNumber, verdictLeft, writtenNumber, tilesNumber, tilesLeft};
-ghost use Rattle.harness_tiles.specs.Lent.{boxOf, padsBy, nineOf, putFrom, extended, extensionNumber, extensionLeft, bytesWith, listLeft};
+ghost use Rattle.boundary.specs.Boundary.{Numbered, writtenNumber, TellsSet, TellsVerdict};
+ghost use Rattle.harness_tiles.specs.Lent.{boxOf, padsBy, nineOf, putFrom, TellsExtension, TellsColours, PortExtracts};
 use boundary::set_given;
 use boundary::told;
 use boundary::written;
@@ -30,7 +29,7 @@ pub extern "C" fn port_contains(
     col: i32,
     out: &mut [u32],
 ) -> u32
-    ensures { λ r. ⌜ Gives (verdictNumber (boxContains (boxOf minrow mincol maxrow maxcol) (world row col))) (verdictLeft (boxContains (boxOf minrow mincol maxrow maxcol) (world row col)) (now (out .entry))) r (now (out .exit)) ⌝ }
+    ensures { λ r. ⌜ TellsVerdict (boxContains (boxOf minrow mincol maxrow maxcol) (world row col)) (before out) r (after out) ⌝ }
 {
     let bounds = lent::box_at(minrow, mincol, maxrow, maxcol);
     let position = world_at(row, col);
@@ -51,7 +50,7 @@ pub extern "C" fn port_calculate_extension(
     offset: &mut [i32],
     needed: &mut [u32],
 ) -> u32
-    ensures { λ r. ⌜ Gives (extensionNumber (extensionOf rows cols (offsetBy down across) (world row col) radius)) (extensionLeft (extensionOf rows cols (offsetBy down across) (world row col) radius) (extended (now (pads .entry)) (now (offset .entry)) (now (needed .entry)))) r (extended (now (pads .exit)) (now (offset .exit)) (now (needed .exit))) ⌝ }
+    ensures { λ r. ⌜ TellsExtension (extensionOf rows cols (offsetBy down across) (world row col) radius) pads offset needed r ⌝ }
 {
     let position = world_at(row, col);
     let from = offset_at(down, across);
@@ -76,7 +75,8 @@ pub extern "C" fn port_constrained_extension(
     offset: &mut [i32],
     needed: &mut [u32],
 ) -> u32
-    ensures { λ r. ⌜ Gives (extensionNumber (boxedExtension rows cols (offsetBy down across) (world row col) radius (boxOf minrow mincol maxrow maxcol))) (extensionLeft (boxedExtension rows cols (offsetBy down across) (world row col) radius (boxOf minrow mincol maxrow maxcol)) (extended (now (pads .entry)) (now (offset .entry)) (now (needed .entry)))) r (extended (now (pads .exit)) (now (offset .exit)) (now (needed .exit))) ⌝ }
+    ensures { λ r. ⌜ TellsExtension (boxedExtension rows cols (offsetBy down across) (world row col) radius (boxOf minrow mincol maxrow maxcol))
+        pads offset needed r ⌝ }
 {
     let position = world_at(row, col);
     let from = offset_at(down, across);
@@ -96,7 +96,7 @@ pub extern "C" fn port_extend_u32(
     bottom: usize,
     target: &mut [u32],
 ) -> u32
-    ensures { λ r. ⌜ Gives (writtenNumber (writtenAnswer (refusal (wordCopyChecks (now (plane .entry)) rows cols (padsBy left right top bottom) (now (target .entry)))))) (afterWordCopy (now (plane .entry)) rows cols (padsBy left right top bottom) (now (target .entry))) r (now (target .exit)) ⌝ }
+    ensures { λ r. ⌜ Numbered writtenNumber (CopiesWords rows cols (padsBy left right top bottom) (before plane) (before target)) r (after target) ⌝ }
 {
     let pads = Pads {
         left,
@@ -119,7 +119,7 @@ pub extern "C" fn port_extend_f64(
     bottom: usize,
     target: &mut [f64],
 ) -> u32
-    ensures { λ r. ⌜ Gives (writtenNumber (writtenAnswer (refusal (floatCopyChecks (now (plane .entry)) rows cols (padsBy left right top bottom) (now (target .entry)))))) (afterFloatCopy (now (plane .entry)) rows cols (padsBy left right top bottom) (now (target .entry))) r (now (target .exit)) ⌝ }
+    ensures { λ r. ⌜ Numbered writtenNumber (CopiesFloats rows cols (padsBy left right top bottom) (before plane) (before target)) r (after target) ⌝ }
 {
     let pads = Pads {
         left,
@@ -133,7 +133,7 @@ pub extern "C" fn port_extend_f64(
 
 #[no_mangle]
 pub extern "C" fn port_set_to_vec(bits: u32, size: u32, colours: &mut [u8], len: &mut [u64]) -> u32
-    ensures { λ r. ⌜ Gives (membersListed (setFrom bits size) .refused) (listLeft (membersListed (setFrom bits size)) (bytesWith (now (colours .entry)) (now (len .entry)))) r (bytesWith (now (colours .exit)) (now (len .exit))) ⌝ }
+    ensures { λ r. ⌜ TellsColours (membersListed (setFrom bits size)) colours len r ⌝ }
 {
     let list = bitset::to_vec(TileBitset { bits, size });
     lent::colours_told(list, colours, len)
@@ -150,7 +150,7 @@ pub extern "C" fn port_extract_tiles(
     store: &mut [u8],
     out: &mut [u64],
 ) -> u32
-    ensures { λ r. ⌜ Gives (tilesNumber (extraction (now (sample .entry)) rows cols count rotations reflections (now (store .entry)))) (bytesWith (storeAfter (now (sample .entry)) rows cols count rotations reflections (now (store .entry))) (tilesLeft (extraction (now (sample .entry)) rows cols count rotations reflections (now (store .entry))) (now (out .entry)))) r (bytesWith (now (store .exit)) (now (out .exit))) ⌝ }
+    ensures { λ r. ⌜ PortExtracts (before sample) rows cols count rotations reflections store out r ⌝ }
 {
     let answer = tiles::extract_tiles(sample, rows, cols, count, rotations, reflections, store);
     extracted(answer, out)
@@ -158,7 +158,7 @@ pub extern "C" fn port_extract_tiles(
 
 #[no_mangle]
 pub extern "C" fn port_rotate_90(tile: &[u8], out: &mut [u8])
-    ensures { λ _. ⌜ now (out .exit) ≡ putFrom 0 (rotated (nineOf (now (tile .entry)))) (now (out .entry)) ⌝ }
+    ensures { λ _. ⌜ after out ≡ putFrom 0 (rotated (nineOf (before tile))) (before out) ⌝ }
 {
     let turned = forms::rotate_90(lent::tile_of(tile));
     lent::put_bytes(out, &turned);
@@ -166,7 +166,7 @@ pub extern "C" fn port_rotate_90(tile: &[u8], out: &mut [u8])
 
 #[no_mangle]
 pub extern "C" fn port_reflect(tile: &[u8], out: &mut [u8])
-    ensures { λ _. ⌜ now (out .exit) ≡ putFrom 0 (reflected (nineOf (now (tile .entry)))) (now (out .entry)) ⌝ }
+    ensures { λ _. ⌜ after out ≡ putFrom 0 (reflected (nineOf (before tile))) (before out) ⌝ }
 {
     let mirrored = forms::reflect(lent::tile_of(tile));
     lent::put_bytes(out, &mirrored);
@@ -174,7 +174,7 @@ pub extern "C" fn port_reflect(tile: &[u8], out: &mut [u8])
 
 #[no_mangle]
 pub extern "C" fn port_membership(tile: &[u8], count: u32, out: &mut [u32]) -> u32
-    ensures { λ r. ⌜ Gives (setNumber (membership (nineOf (now (tile .entry))) count)) (setLeft (membership (nineOf (now (tile .entry))) count) (now (out .entry))) r (now (out .exit)) ⌝ }
+    ensures { λ r. ⌜ TellsSet (membership (nineOf (before tile)) count) (before out) r (after out) ⌝ }
 {
     let answer = membership::convert_tile_to_membership_booleans(lent::tile_of(tile), count);
     set_given(answer, out)

@@ -2,17 +2,15 @@
 use crate::list::ROOM;
 use crate::list::UNTOUCHED;
 use crate::list::bytes_in;
-use crate::list::floats_are;
 use crate::list::longs_are;
 use crate::list::signed;
 use crate::list::size;
 use crate::list::told;
-use crate::list::untouched;
 use crate::list::word;
 use crate::list::words_are;
 use crate::list::words_in;
 
-fn region_count(words: &[u64], marks: &[u64]) -> bool {
+pub fn region_count(words: &[u64], marks: &[u64]) -> bool {
     let mut pieceroom = [0u32; ROOM];
     let pieces = words_in(words, marks, 0, &mut pieceroom);
     let mut tileroom = [0u8; ROOM];
@@ -31,44 +29,7 @@ fn region_count(words: &[u64], marks: &[u64]) -> bool {
     told(words, marks, 7, number) && longs_are(words, marks, 8, &out)
 }
 
-fn fraction(words: &[u64], marks: &[u64]) -> bool {
-    let mut countroom = [0u32; ROOM];
-    let counts = words_in(words, marks, 0, &mut countroom);
-    let mut out = [untouched(); 1];
-    let number = harness::port_fraction(
-        counts,
-        size(words, marks, 1),
-        size(words, marks, 2),
-        size(words, marks, 3),
-        size(words, marks, 4),
-        size(words, marks, 5),
-        &mut out,
-    );
-    told(words, marks, 6, number) && floats_are(words, marks, 7, &out)
-}
-
-fn listing(words: &[u64], marks: &[u64]) -> bool {
-    let mut pieceroom = [0u32; ROOM];
-    let pieces = words_in(words, marks, 0, &mut pieceroom);
-    let mut tileroom = [0u8; ROOM];
-    let tiles = bytes_in(words, marks, 3, &mut tileroom);
-    let mut out = [77u32; 2];
-    let number = harness::port_listing(
-        pieces,
-        size(words, marks, 1),
-        size(words, marks, 2),
-        tiles,
-        word(words, marks, 4),
-        signed(words, marks, 5),
-        signed(words, marks, 6),
-        signed(words, marks, 7),
-        signed(words, marks, 8),
-        &mut out,
-    );
-    told(words, marks, 9, number) && words_are(words, marks, 10, &out)
-}
-
-fn scan(words: &[u64], marks: &[u64]) -> bool {
+pub fn scan(words: &[u64], marks: &[u64]) -> bool {
     let mut pieceroom = [0u32; ROOM];
     let pieces = words_in(words, marks, 0, &mut pieceroom);
     let mut weightroom = [0u32; ROOM];
@@ -88,7 +49,7 @@ fn scan(words: &[u64], marks: &[u64]) -> bool {
     told(words, marks, 6, number) && longs_are(words, marks, 7, &out)
 }
 
-fn raise(words: &[u64], marks: &[u64]) -> bool {
+pub fn raise(words: &[u64], marks: &[u64]) -> bool {
     let mut weightroom = [0u32; ROOM];
     let weights = words_in(words, marks, 0, &mut weightroom);
     let number = harness::port_raise_weights(
@@ -103,7 +64,7 @@ fn raise(words: &[u64], marks: &[u64]) -> bool {
     told(words, marks, 7, number) && words_are(words, marks, 8, weights)
 }
 
-fn lower(words: &[u64], marks: &[u64]) -> bool {
+pub fn lower(words: &[u64], marks: &[u64]) -> bool {
     let mut weightroom = [0u32; ROOM];
     let weights = words_in(words, marks, 0, &mut weightroom);
     let number = harness::port_lower_weights(
@@ -118,7 +79,7 @@ fn lower(words: &[u64], marks: &[u64]) -> bool {
     told(words, marks, 7, number) && words_are(words, marks, 8, weights)
 }
 
-fn recount(words: &[u64], marks: &[u64]) -> bool {
+pub fn recount(words: &[u64], marks: &[u64]) -> bool {
     let mut countroom = [0u32; ROOM];
     let counts = words_in(words, marks, 0, &mut countroom);
     let mut pieceroom = [0u32; ROOM];
@@ -140,7 +101,7 @@ fn recount(words: &[u64], marks: &[u64]) -> bool {
     told(words, marks, 10, number) && words_are(words, marks, 11, counts)
 }
 
-fn fresh(words: &[u64], marks: &[u64]) -> bool {
+pub fn fresh(words: &[u64], marks: &[u64]) -> bool {
     let mut pieceroom = [0u32; ROOM];
     let pieces = words_in(words, marks, 0, &mut pieceroom);
     let mut weightroom = [0u32; ROOM];
@@ -159,18 +120,4 @@ fn fresh(words: &[u64], marks: &[u64]) -> bool {
         && words_are(words, marks, 7, pieces)
         && words_are(words, marks, 8, weights)
         && words_are(words, marks, 9, counts)
-}
-
-// Whether a step of this family answers as recorded.
-pub fn answers(step: usize, words: &[u64], marks: &[u64]) -> bool {
-    match step {
-        0 => region_count(words, marks),
-        1 => fraction(words, marks),
-        2 => listing(words, marks),
-        3 => scan(words, marks),
-        4 => raise(words, marks),
-        5 => lower(words, marks),
-        6 => recount(words, marks),
-        _ => fresh(words, marks),
-    }
 }

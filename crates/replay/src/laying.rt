@@ -11,7 +11,7 @@ use crate::list::words_are;
 use crate::list::words_in;
 
 // Of the two words lent the second stays as it was.
-fn fitting_colours(words: &[u64], marks: &[u64]) -> bool {
+pub fn fitting_colours(words: &[u64], marks: &[u64]) -> bool {
     let mut pieceroom = [0u32; ROOM];
     let pieces = words_in(words, marks, 0, &mut pieceroom);
     let mut tileroom = [0u8; ROOM];
@@ -32,7 +32,7 @@ fn fitting_colours(words: &[u64], marks: &[u64]) -> bool {
     told(words, marks, 9, number) && longs_are(words, marks, 10, &found)
 }
 
-fn lay(words: &[u64], marks: &[u64]) -> bool {
+pub fn lay(words: &[u64], marks: &[u64]) -> bool {
     let mut pieceroom = [0u32; ROOM];
     let pieces = words_in(words, marks, 0, &mut pieceroom);
     let mut weightroom = [0u32; ROOM];
@@ -61,7 +61,7 @@ fn lay(words: &[u64], marks: &[u64]) -> bool {
         && words_are(words, marks, 15, counts)
 }
 
-fn lift(words: &[u64], marks: &[u64]) -> bool {
+pub fn lift(words: &[u64], marks: &[u64]) -> bool {
     let mut pieceroom = [0u32; ROOM];
     let pieces = words_in(words, marks, 0, &mut pieceroom);
     let mut weightroom = [0u32; ROOM];
@@ -87,13 +87,4 @@ fn lift(words: &[u64], marks: &[u64]) -> bool {
         && words_are(words, marks, 12, pieces)
         && words_are(words, marks, 13, weights)
         && words_are(words, marks, 14, counts)
-}
-
-// Whether a step of this family answers as recorded.
-pub fn answers(step: usize, words: &[u64], marks: &[u64]) -> bool {
-    match step {
-        0 => fitting_colours(words, marks),
-        1 => lay(words, marks),
-        _ => lift(words, marks),
-    }
 }

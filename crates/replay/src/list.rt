@@ -132,7 +132,7 @@ fn entry(words: &[u64], marks: &[u64], part: usize, i: usize) -> u64 {
     }
 }
 
-pub fn number(words: &[u64], marks: &[u64], part: usize) -> u64 {
+fn number(words: &[u64], marks: &[u64], part: usize) -> u64 {
     entry(words, marks, part, 0)
 }
 
@@ -167,25 +167,6 @@ fn signed_of(value: u64) -> i32 {
 
 pub fn signed(words: &[u64], marks: &[u64], part: usize) -> i32 {
     signed_of(number(words, marks, part))
-}
-
-// A float of its bits. All NaNs are one: which bits a NaN has is not said of any answer.
-fn float_of(bits: u64) -> f64 {
-    if bits % 0x8000_0000_0000_0000 / 0x10_0000_0000_0000 != 2047 {
-        return f64::from_bits(bits);
-    }
-    if bits % 0x10_0000_0000_0000 == 0 {
-        return f64::from_bits(bits);
-    }
-    0.0 / 0.0
-}
-
-fn float_is(x: f64, bits: u64) -> bool {
-    if x != x {
-        let expected = float_of(bits);
-        return expected != expected;
-    }
-    f64::to_bits(x) == bits
 }
 
 fn fill_words(words: &[u64], marks: &[u64], part: usize, room: &mut [u32]) {
@@ -236,58 +217,6 @@ pub fn bytes_in<'a>(words: &[u64], marks: &[u64], part: usize, room: &'a mut [u8
     cells
 }
 
-fn fill_numbers(words: &[u64], marks: &[u64], part: usize, room: &mut [i32]) {
-    let mut i = 0;
-    while i < room.len() {
-        room[i] = signed_of(entry(words, marks, part, i));
-        i += 1;
-    }
-}
-
-fn cut_numbers<'a>(room: &'a mut [i32], n: usize) -> &'a mut [i32] {
-    if n < room.len() {
-        return &mut room[..n];
-    }
-    room
-}
-
-pub fn numbers_in<'a>(
-    words: &[u64],
-    marks: &[u64],
-    part: usize,
-    room: &'a mut [i32],
-) -> &'a mut [i32] {
-    let cells = cut_numbers(room, length(marks, part));
-    fill_numbers(words, marks, part, cells);
-    cells
-}
-
-fn fill_floats(words: &[u64], marks: &[u64], part: usize, room: &mut [f64]) {
-    let mut i = 0;
-    while i < room.len() {
-        room[i] = float_of(entry(words, marks, part, i));
-        i += 1;
-    }
-}
-
-fn cut_floats<'a>(room: &'a mut [f64], n: usize) -> &'a mut [f64] {
-    if n < room.len() {
-        return &mut room[..n];
-    }
-    room
-}
-
-pub fn floats_in<'a>(
-    words: &[u64],
-    marks: &[u64],
-    part: usize,
-    room: &'a mut [f64],
-) -> &'a mut [f64] {
-    let cells = cut_floats(room, length(marks, part));
-    fill_floats(words, marks, part, cells);
-    cells
-}
-
 // What a slice must hold at an index after the call: the part's number, or past its end what stood there before.
 fn expected(words: &[u64], marks: &[u64], part: usize, i: usize) -> u64 {
     if i < length(marks, part) {
@@ -295,11 +224,6 @@ fn expected(words: &[u64], marks: &[u64], part: usize, i: usize) -> u64 {
     } else {
         UNTOUCHED
     }
-}
-
-// A float for a slice that is lent for an answer.
-pub fn untouched() -> f64 {
-    float_of(UNTOUCHED)
 }
 
 fn word_is(cell: u32, value: u64) -> bool {
@@ -312,13 +236,6 @@ fn byte_is(cell: u8, value: u64) -> bool {
 
 fn long_is(cell: u64, value: u64) -> bool {
     value == cell
-}
-
-fn number_is(cell: i32, value: u64) -> bool {
-    if 0xffff_ffff < value {
-        return false;
-    }
-    signed_of(value) == cell
 }
 
 // Whether the call answered the number recorded.
@@ -362,34 +279,6 @@ pub fn longs_are(words: &[u64], marks: &[u64], part: usize, cells: &[u64]) -> bo
     let mut i = 0;
     while i < cells.len() {
         if !long_is(cells[i], expected(words, marks, part, i)) {
-            return false;
-        }
-        i += 1;
-    }
-    true
-}
-
-pub fn numbers_are(words: &[u64], marks: &[u64], part: usize, cells: &[i32]) -> bool {
-    if cells.len() < length(marks, part) {
-        return false;
-    }
-    let mut i = 0;
-    while i < cells.len() {
-        if !number_is(cells[i], expected(words, marks, part, i)) {
-            return false;
-        }
-        i += 1;
-    }
-    true
-}
-
-pub fn floats_are(words: &[u64], marks: &[u64], part: usize, cells: &[f64]) -> bool {
-    if cells.len() < length(marks, part) {
-        return false;
-    }
-    let mut i = 0;
-    while i < cells.len() {
-        if !float_is(cells[i], expected(words, marks, part, i)) {
             return false;
         }
         i += 1;

@@ -1,29 +1,27 @@
-// The fixed list: a sample of the answers of the Rust that the port comes from, one file for each step, made by the driver in oracle/ (see
-// its README). Each record's call is made again, and its answer and all that it may write are compared with the record.
+// The fixed list: a sample of the answers of the Rust that the port comes from, made by the driver in oracle/ (see its README): one file
+// for the extraction of tiles, and one for each step on a board and each function of the desk. Each record's call is made again, and its
+// answer and all that it may write are compared with the record.
 mod board;
-mod floats;
-mod forced;
 mod laying;
 mod list;
-mod places;
-mod sets;
 mod tiles;
 
 use libc::STDOUT_FILENO;
 
 const LONGEST_FILE: usize = 24576;
 
-// A step's number: the tens are its family, whose module has the family's steps by the ones.
 fn answers(step: usize, words: &[u64], marks: &[u64]) -> bool {
-    let one = step % 10;
-    match step / 10 {
-        0 => places::answers(one, words, marks),
-        1 => tiles::answers(one, words, marks),
-        2 => sets::answers(one, words, marks),
-        3 => board::answers(one, words, marks),
-        4 => forced::answers(one, words, marks),
-        5 => laying::answers(one, words, marks),
-        _ => floats::answers(one, words, marks),
+    match step {
+        0 => tiles::extract(words, marks),
+        1 => board::region_count(words, marks),
+        2 => board::scan(words, marks),
+        3 => board::raise(words, marks),
+        4 => board::lower(words, marks),
+        5 => board::recount(words, marks),
+        6 => board::fresh(words, marks),
+        7 => laying::fitting_colours(words, marks),
+        8 => laying::lay(words, marks),
+        _ => laying::lift(words, marks),
     }
 }
 
@@ -102,73 +100,15 @@ fn replay(step: usize, name: &[u8]) {
     replay_all(step, &input[..read]);
 }
 
-fn replay_places() {
-    replay(0, b"spans");
-    replay(1, b"box");
-    replay(2, b"extension");
-    replay(3, b"boxed-extension");
-    replay(4, b"copy-u32");
-    replay(5, b"copy-f64");
-}
-
-fn replay_tiles() {
-    replay(10, b"extract");
-    replay(11, b"rotate");
-    replay(12, b"reflect");
-    replay(13, b"membership");
-}
-
-fn replay_sets() {
-    replay(20, b"set-new");
-    replay(21, b"set-all");
-    replay(22, b"set-insert");
-    replay(23, b"set-contains");
-    replay(24, b"set-intersection");
-    replay(25, b"set-is-empty");
-    replay(26, b"set-count");
-    replay(27, b"set-to-vec");
-}
-
-fn replay_board() {
-    replay(30, b"region-count");
-    replay(31, b"fraction");
-    replay(32, b"listing");
-    replay(33, b"scan");
-    replay(34, b"weights-up");
-    replay(35, b"weights-down");
-    replay(36, b"recount");
-    replay(37, b"fresh");
-}
-
-fn replay_desk() {
-    replay(50, b"fitting-colours");
-    replay(51, b"lay");
-    replay(52, b"lift");
-}
-
-fn replay_forced() {
-    replay(40, b"forced");
-    replay(40, b"boxed-forced");
-    replay(41, b"queue-add");
-    replay(42, b"queue-take");
-    replay(43, b"queue-is-empty");
-    replay(44, b"queue-len");
-}
-
-fn replay_floats() {
-    replay(60, b"normalise");
-    replay(61, b"product");
-    replay(62, b"quotient");
-    replay(63, b"lay-score");
-    replay(64, b"lift-score");
-}
-
 fn main() {
-    replay_places();
-    replay_tiles();
-    replay_sets();
-    replay_board();
-    replay_desk();
-    replay_forced();
-    replay_floats();
+    replay(0, b"extract");
+    replay(1, b"region-count");
+    replay(2, b"scan");
+    replay(3, b"weights-up");
+    replay(4, b"weights-down");
+    replay(5, b"recount");
+    replay(6, b"fresh");
+    replay(7, b"fitting-colours");
+    replay(8, b"lay");
+    replay(9, b"lift");
 }

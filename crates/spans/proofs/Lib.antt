@@ -1,3 +1,4 @@
 pub mod Radius
+pub mod Spanned
 pub mod Coincide
 pub mod Spanned

@@ -705,53 +705,31 @@ impl Input for BoardInput {
     }
 
     fn arguments(&self) -> Option<Parts> {
-        let Self { step, rows, cols, ref pieces, ref weights, ref counts, ref scores, number, .. } = *self;
-        let Self { world, offset, cell, row_span, col_span, .. } = *self;
+        let Self { step, rows, cols, ref pieces, ref weights, ref counts, number, world, offset, cell, .. } = *self;
         let planes = match step {
-            Step::RegionCount | Step::Listing | Step::Forced | Step::BoxedForced | Step::FittingColours => {
-                Parts::new().slice(pieces)
-            }
-            Step::Fraction => Parts::new().slice(counts),
+            Step::RegionCount | Step::FittingColours => Parts::new().slice(pieces),
             Step::Scan => Parts::new().slice(pieces).slice(weights),
             Step::Raise | Step::Lower => Parts::new().slice(weights),
             Step::Recount => Parts::new().slice(counts).slice(pieces),
             Step::Fresh | Step::Lay | Step::Lift => Parts::new().slice(pieces).slice(weights).slice(counts),
-            Step::LayScore | Step::LiftScore => Parts::new().slice(scores).slice(counts),
+            Step::Fraction | Step::Listing | Step::Forced | Step::BoxedForced | Step::LayScore | Step::LiftScore => {
+                return None;
+            }
         };
         let board = planes.pair(rows, cols);
         let job = if step.tiles() { board.slice(self.tiles.bytes()).number(self.tiles.count()) } else { board };
         let job = if step.number() { job.number(number) } else { job };
         let placed = if step.cell() { job.pair(cell.0, cell.1) } else { job };
         let placed = if step.spot() { placed.pair(world.0, world.1).pair(offset.0, offset.1) } else { placed };
-        Some(match step {
-            Step::Forced | Step::BoxedForced => {
-                let BoundingBox { min, max } =
-                    self.bounds.unwrap_or(BoundingBox { min: World(0, 0), max: World(0, 0) });
-                placed.number(self.bounds.is_some()).pair(min.0, min.1).pair(max.0, max.1)
-            }
-            Step::Lay => placed.number(self.colour),
-            Step::LiftScore => placed.pair(row_span.0, row_span.1).pair(col_span.0, col_span.1),
-            _ => placed,
-        })
+        Some(if step == Step::Lay { placed.number(self.colour) } else { placed })
     }
 
     fn told(&self, answer: Option<&[Value]>) -> Parts {
-        let values = answer.unwrap_or_default();
-        match self.step {
+        match (self.step, answer.unwrap_or_default()) {
             // a dead end is told as 1 with its cell, none as 0
-            Step::Scan => match *values {
-                [row, col] => Parts::new().slice(&[Value::Whole(1), row, col]),
-                [_] => Parts::new().number(0_u32),
-                _ => Parts::new().slice(values),
-            },
-            // coordinates, colours, how many
-            Step::Forced | Step::BoxedForced => {
-                let (entries, len) = values.split_at(values.len() / 3 * 3);
-                let coordinates: Vec<Value> = entries.chunks(3).flat_map(|entry| [entry[0], entry[1]]).collect();
-                let colours: Vec<Value> = entries.chunks(3).map(|entry| entry[2]).collect();
-                Parts::new().slice(&coordinates).slice(&colours).slice(len)
-            }
-            _ => Parts::new().slice(values),
+            (Step::Scan, &[row, col]) => Parts::new().slice(&[Value::Whole(1), row, col]),
+            (Step::Scan, [_]) => Parts::new().number(0_u32),
+            (_, values) => Parts::new().slice(values),
         }
     }
 }

@@ -5,7 +5,6 @@ use crate::calls::*;
 use crate::inputs::{self, Cut, TileList};
 use crate::outcome::{Guarded, Lent, Outcome, Plane};
 use crate::random::Random;
-use crate::record::{Parts, Word};
 use crate::{refusals, side};
 use oracle::steps;
 use std::fmt::Debug;
@@ -23,7 +22,7 @@ pub struct CopyInput<T> {
 }
 
 /// What the two copies have each for its own.
-pub trait Copied: Guarded + Word + PartialEq + Debug {
+pub trait Copied: Guarded + Copy + PartialEq + Debug {
     const NAME: &'static [(&'static str, u64, ())];
     const PLAIN: Self;
     fn random(random: &mut Random, len: usize) -> Vec<Self>;
@@ -183,11 +182,5 @@ impl<T: Copied> Input for CopyInput<T> {
         let mut target = Lent::new(&self.target);
         let answer = T::by_port(self, plane.cells(), target.cells_mut()).map(|()| Vec::new());
         Outcome { answer, planes: vec![T::plane(target.cells())], intact: plane.untouched() && target.guarded() }
-    }
-
-    fn arguments(&self) -> Option<Parts> {
-        let Self { plane, rows, cols, pads: Pads { left, right, top, bottom }, target } = self;
-        let parts = Parts::new().slice(plane).pair(*rows, *cols);
-        Some(parts.pair(*left, *right).pair(*top, *bottom).slice(target))
     }
 }

@@ -5,7 +5,6 @@ use crate::calls::*;
 use crate::inputs::{self, TileList};
 use crate::outcome::{Outcome, Value};
 use crate::random::Random;
-use crate::record::Parts;
 use crate::{refusals, side};
 use oracle::steps;
 
@@ -155,30 +154,5 @@ impl Input for PlaceInput {
             }
         };
         Outcome::new(answer, Vec::new())
-    }
-
-    fn arguments(&self) -> Option<Parts> {
-        let Self { step, rows, cols, world, offset, radius, bounds: BoundingBox { min, max } } = *self;
-        let parts = Parts::new();
-        Some(match step {
-            Step::Spans => parts.pair(offset.0, offset.1).pair(world.0, world.1).number(radius),
-            Step::Contains => parts.pair(min.0, min.1).pair(max.0, max.1).pair(world.0, world.1),
-            Step::Extension | Step::BoxedExtension => {
-                let parts = parts.pair(rows, cols).pair(offset.0, offset.1).pair(world.0, world.1).number(radius);
-                if step == Step::Extension { parts } else { parts.pair(min.0, min.1).pair(max.0, max.1) }
-            }
-        })
-    }
-
-    fn told(&self, answer: Option<&[Value]>) -> Parts {
-        let values = answer.unwrap_or_default();
-        match self.step {
-            Step::Spans | Step::Contains => Parts::new().slice(values),
-            // pads, offset, whether any is needed
-            Step::Extension | Step::BoxedExtension => {
-                let ends = if answer.is_some() { [4, 6] } else { [0, 0] };
-                Parts::new().slice(&values[..ends[0]]).slice(&values[ends[0]..ends[1]]).slice(&values[ends[1]..])
-            }
-        }
     }
 }

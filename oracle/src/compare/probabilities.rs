@@ -5,7 +5,6 @@ use crate::calls::*;
 use crate::inputs::{self, Cut, TileList};
 use crate::outcome::{Lent, Outcome, Plane};
 use crate::random::Random;
-use crate::record::Parts;
 use crate::{refusals, side};
 use oracle::steps;
 
@@ -234,15 +233,5 @@ impl Input for ProbabilityInput {
             planes: vec![Plane::floats(probabilities.cells())],
             intact: probabilities.guarded() && block.untouched(),
         }
-    }
-
-    fn arguments(&self) -> Option<Parts> {
-        let Self { step, rows, cols, count, block_rows, block_cols, world, offset, radius, .. } = *self;
-        let planes = Parts::new().slice(&self.probabilities).pair(rows, cols).number(count);
-        let placed = |parts: Parts| parts.pair(world.0, world.1).pair(offset.0, offset.1);
-        Some(match step {
-            Step::Normalise => placed(planes).slice(&self.out),
-            _ => placed(planes.slice(&self.block).pair(block_rows, block_cols)).number(radius),
-        })
     }
 }

@@ -5,7 +5,6 @@ use crate::calls::*;
 use crate::inputs::{self, TileList};
 use crate::outcome::{Outcome, Plane, Value};
 use crate::random::Random;
-use crate::record::Parts;
 use crate::{refusals, side};
 use oracle::steps;
 
@@ -269,52 +268,6 @@ impl Input for QueueInput {
             }
         }
     }
-
-    fn arguments(&self) -> Option<Parts> {
-        let queue = flat(Parts::new(), &self.queue.entries).number(self.queue.len);
-        Some(match self.step {
-            Step::Add => flat(queue, &self.added.entries).number(self.added.len),
-            Step::Take | Step::IsEmpty | Step::Len => queue,
-        })
-    }
-
-    fn told(&self, answer: Option<&[Value]>) -> Parts {
-        let values = answer.unwrap_or_default();
-        match (self.step, values) {
-            // coordinates, colour, whether there is one
-            (Step::Take, &[row, col, colour]) => Parts::new().slice(&[row, col]).number(colour).number(true),
-            (Step::Take, _) => {
-                let found: &[bool] = if answer.is_some() { &[false] } else { &[] };
-                Parts::new().slice(values).slice(values).slice(found)
-            }
-            _ => Parts::new().slice(values),
-        }
-    }
-
-    fn left(&self, planes: &[Plane]) -> Parts {
-        let mut parts = Parts::new();
-        for plane in planes {
-            let Plane::Words(words) = plane else { unreachable!("a queue is words") };
-            let (entries, len) = words.split_at(words.len() - 2);
-            let coordinates: Vec<u32> = entries.chunks(3).flat_map(|entry| [entry[0], entry[1]]).collect();
-            let colours: Vec<u32> = entries.chunks(3).map(|entry| entry[2]).collect();
-            parts = parts.slice(&coordinates).slice(&colours).number(u64::from(len[0]) | u64::from(len[1]) << 32);
-        }
-        parts
-    }
-
-    fn tidy(&mut self) {
-        let unread = ForcedPosition { coordinates: World(5, 6), colour: 7 };
-        self.queue.entries[self.queue.len.min(64)..].fill(unread);
-        self.added.entries[self.added.len.min(8)..].fill(unread);
-    }
-}
-
-/// Entries as the boundary has them: coordinates by turns, then colours.
-fn flat(parts: Parts, entries: &[ForcedPosition]) -> Parts {
-    let coordinates: Vec<i32> = entries.iter().flat_map(|entry| [entry.coordinates.0, entry.coordinates.1]).collect();
-    let colours: Vec<u32> = entries.iter().map(|entry| entry.colour).collect();
-    parts.slice(&coordinates).slice(&colours)
 }
 
 fn spoil_entry(random: &mut Random, entry: &mut ForcedPosition) {

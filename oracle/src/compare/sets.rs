@@ -5,7 +5,6 @@ use crate::calls::*;
 use crate::inputs::{self, TileList};
 use crate::outcome::{Outcome, Value};
 use crate::random::Random;
-use crate::record::Parts;
 use crate::{refusals, side};
 use oracle::steps;
 
@@ -183,27 +182,5 @@ impl Input for SetInput {
             Step::ToVec => side::set_to_vec(set).map(|list| list_values(&list.colours, list.len)),
         };
         Outcome::new(answer, Vec::new())
-    }
-
-    fn arguments(&self) -> Option<Parts> {
-        let Self { step, set, other, colour } = *self;
-        Some(match step {
-            Step::New | Step::All => Parts::new().number(set.size),
-            Step::Insert | Step::Contains => Parts::new().pair(set.bits, set.size).number(colour),
-            Step::Intersection => Parts::new().pair(set.bits, set.size).pair(other.bits, other.size),
-            Step::IsEmpty | Step::Count | Step::ToVec => Parts::new().pair(set.bits, set.size),
-        })
-    }
-
-    fn told(&self, answer: Option<&[Value]>) -> Parts {
-        let values = answer.unwrap_or_default();
-        match self.step {
-            // the colours, and how many
-            Step::ToVec => {
-                let colours = values.len().saturating_sub(1);
-                Parts::new().slice(&values[..colours]).slice(&values[colours..])
-            }
-            _ => Parts::new().slice(values),
-        }
     }
 }

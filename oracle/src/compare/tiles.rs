@@ -254,9 +254,4 @@ impl Input for TileInput {
         };
         Outcome::new(answer, Vec::new())
     }
-
-    fn arguments(&self) -> Option<Parts> {
-        let parts = Parts::new().slice(&self.tile);
-        Some(if self.step == Step::Membership { parts.number(self.count) } else { parts })
-    }
 }

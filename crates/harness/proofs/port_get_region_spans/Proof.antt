@@ -29,7 +29,12 @@ returns : tie.Need-returns
 returns c =
     let e = c .before .before .before .before .before .before .before .before in
     let a = e .args in
-    passed-on spanNumber spanLeft (c .before .before .before .before .get-region-spans .ensures ∙ ap₂ (λ (w : World) (o : Offset). regionSpans o w (a .radius)) (c .before .before .before .before .before .before .world-at .ensures ∙ world-is (e .fits .row) (e .fits .col)) (c .before .before .before .before .before .offset-at .ensures ∙ offset-is (e .fits .down) (e .fits .across))) (c .before .before .spanned .ensures)
+    passed-on spanNumber spanLeft
+    (c .before .before .before .before .get-region-spans .ensures
+    ∙ ap₂ (λ (w : World) (o : Offset). regionSpans o w (a .radius))
+    (c .before .before .before .before .before .before .world-at .ensures ∙ world-is (e .fits .row) (e .fits .col))
+    (c .before .before .before .before .before .offset-at .ensures ∙ offset-is (e .fits .down) (e .fits .across)))
+    (c .before .before .spanned .ensures)
 
 pub port-get-region-spans-spec : {M : Type 1} → statement M
 port-get-region-spans-spec = tie.close (tie.spec world-at-requires offset-at-requires get-region-spans-requires spanned-requires same-length returns)

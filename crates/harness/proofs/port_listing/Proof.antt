@@ -30,7 +30,12 @@ returns : tie.Need-returns
 returns c =
     let e = c .before .before .before .before .before .before .before .before .before .before in
     let a = e .args in
-    passed-on listingNumber listingLeft (c .before .before .before .before .compute-viable-tiles-at-position .ensures ∙ ap₂ (λ (w : World) (o : Offset). listing flat (a .pieces .now) (a .rows) (a .cols) (a .tiles .now) (a .count) w o) (c .before .before .before .before .before .before .world-at .ensures ∙ world-is (e .fits .row) (e .fits .col)) (c .before .before .before .before .before .offset-at .ensures ∙ offset-is (e .fits .down) (e .fits .across))) (c .before .before .listed .ensures)
+    passed-on listingNumber listingLeft
+    (c .before .before .before .before .compute-viable-tiles-at-position .ensures
+    ∙ ap₂ (λ (w : World) (o : Offset). listing flat (a .pieces .now) (a .rows) (a .cols) (a .tiles .now) (a .count) w o)
+    (c .before .before .before .before .before .before .world-at .ensures ∙ world-is (e .fits .row) (e .fits .col))
+    (c .before .before .before .before .before .offset-at .ensures ∙ offset-is (e .fits .down) (e .fits .across)))
+    (c .before .before .listed .ensures)
 
 pub port-listing-spec : {M : Type 1} → statement M
 port-listing-spec = tie.close (tie.spec world-at-requires offset-at-requires compute-viable-tiles-at-position-requires listed-requires same-length returns)

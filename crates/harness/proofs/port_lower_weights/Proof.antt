@@ -31,7 +31,9 @@ returns c =
     let e = c .before .before .before .before .before .before .before .before in
     let a = e .args in
     numbered-at writtenNumber (λ (w : World) (o : Offset). Lowers flat (a .rows) (a .cols) w o (a .weights .now))
-    (c .before .before .before .before .before .before .world-at .ensures ∙ world-is (e .fits .row) (e .fits .col)) (c .before .before .before .before .before .offset-at .ensures ∙ offset-is (e .fits .down) (e .fits .across)) (c .written .ensures) (c .before .before .before .revert-adjacency-weights .ensures)
+    (c .before .before .before .before .before .before .world-at .ensures ∙ world-is (e .fits .row) (e .fits .col))
+    (c .before .before .before .before .before .offset-at .ensures ∙ offset-is (e .fits .down) (e .fits .across))
+    (c .written .ensures) (c .before .before .before .revert-adjacency-weights .ensures)
 
 pub port-lower-weights-spec : {M : Type 1} → statement M
 port-lower-weights-spec = tie.close (tie.spec world-at-requires offset-at-requires revert-adjacency-weights-requires written-requires same-length returns)

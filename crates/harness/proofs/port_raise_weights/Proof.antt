@@ -31,7 +31,9 @@ returns c =
     let e = c .before .before .before .before .before .before .before .before in
     let a = e .args in
     numbered-at writtenNumber (λ (w : World) (o : Offset). Raises flat (a .rows) (a .cols) w o (a .weights .now))
-    (c .before .before .before .before .before .before .world-at .ensures ∙ world-is (e .fits .row) (e .fits .col)) (c .before .before .before .before .before .offset-at .ensures ∙ offset-is (e .fits .down) (e .fits .across)) (c .written .ensures) (c .before .before .before .raise-adjacency-weights .ensures)
+    (c .before .before .before .before .before .before .world-at .ensures ∙ world-is (e .fits .row) (e .fits .col))
+    (c .before .before .before .before .before .offset-at .ensures ∙ offset-is (e .fits .down) (e .fits .across))
+    (c .written .ensures) (c .before .before .before .raise-adjacency-weights .ensures)
 
 pub port-raise-weights-spec : {M : Type 1} → statement M
 port-raise-weights-spec = tie.close (tie.spec world-at-requires offset-at-requires raise-adjacency-weights-requires written-requires same-length returns)

@@ -30,7 +30,9 @@ returns c =
     let e = c .before .before .before .before .before .before .before .before .before .before in
     let a = e .args in
     numbered-at writtenNumber (λ (w : World) (o : Offset). Recounts (panel (a .rows) (a .cols) (a .tiles .now) o) (a .count) w (a .pieces .now) (a .counts .now))
-    (c .before .before .before .before .before .before .world-at .ensures ∙ world-is (e .fits .row) (e .fits .col)) (c .before .before .before .before .before .offset-at .ensures ∙ offset-is (e .fits .down) (e .fits .across)) (c .written .ensures) (c .before .before .before .recount-feasibility .ensures)
+    (c .before .before .before .before .before .before .world-at .ensures ∙ world-is (e .fits .row) (e .fits .col))
+    (c .before .before .before .before .before .offset-at .ensures ∙ offset-is (e .fits .down) (e .fits .across))
+    (c .written .ensures) (c .before .before .before .recount-feasibility .ensures)
 
 pub port-recount-spec : {M : Type 1} → statement M
 port-recount-spec = tie.close (tie.spec world-at-requires offset-at-requires recount-feasibility-requires written-requires same-length returns)

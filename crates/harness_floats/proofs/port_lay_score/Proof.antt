@@ -5,9 +5,7 @@ use Rattle.boundary.specs.Boundary.{writtenNumber}
 use mathlib.Core.Path.{_∙_}
 use Rattle.rules.specs.declared.World.{World}
 use Rattle.rules.specs.declared.Offset.{Offset}
-use Rattle.base.specs.Refusal.{refusal, unlessRefused}
-use Rattle.rules.specs.Answers.{writtenAnswer}
-use Rattle.rules.specs.Scores.{layScoreChecks, layScores}
+use Rattle.rules.specs.Promises.{ScoresLay}
 use borrow.Author.Needs.{needs}
 use Rattle.harness_floats.proofs.port_lay_score.Statement.{statement}
 use Rattle.harness_floats.proofs.port_lay_score.Tie as tie
@@ -31,7 +29,10 @@ returns : tie.Need-returns
 returns c =
     let e = c .before .before .before .before .before .before .before .before .before in
     let a = e .args in
-    numbered-at writtenNumber (λ (w : World) (o : Offset). writtenAnswer (refusal (layScoreChecks (a .scores .now) (a .counts .now) (a .rows) (a .cols) (a .tiles) w o))) (λ (w : World) (o : Offset). unlessRefused (refusal (layScoreChecks (a .scores .now) (a .counts .now) (a .rows) (a .cols) (a .tiles) w o)) (layScores (a .rows) (a .cols) (a .counts .now) (a .tiles) w o (a .scores .now)) (a .scores .now)) (c .before .before .before .before .before .before .world-at .ensures ∙ world-is (e .fits .row) (e .fits .col)) (c .before .before .before .before .before .offset-at .ensures ∙ offset-is (e .fits .down) (e .fits .across)) (c .written .ensures) (c .before .before .before .update-feasibility .ensures)
+    numbered-at writtenNumber (λ (w : World) (o : Offset). ScoresLay (a .rows) (a .cols) (a .counts .now) (a .tiles) w o (a .scores .now))
+    (c .before .before .before .before .before .before .world-at .ensures ∙ world-is (e .fits .row) (e .fits .col))
+    (c .before .before .before .before .before .offset-at .ensures ∙ offset-is (e .fits .down) (e .fits .across))
+    (c .written .ensures) (c .before .before .before .update-feasibility .ensures)
 
 pub port-lay-score-spec : {M : Type 1} → statement M
 port-lay-score-spec = tie.close (tie.spec world-at-requires offset-at-requires update-feasibility-requires written-requires same-length returns)

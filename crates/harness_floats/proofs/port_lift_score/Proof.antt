@@ -1,6 +1,4 @@
 -- `harness_floats::port_lift_score` meets its contract: the answer by its definition, passed on. Assumes nothing.
-use Rattle.boundary.proofs.Back.{numbered}
-use Rattle.boundary.specs.Boundary.{writtenNumber}
 use borrow.Author.Needs.{needs}
 use Rattle.harness_floats.proofs.port_lift_score.Statement.{statement}
 use Rattle.harness_floats.proofs.port_lift_score.Tie as tie
@@ -15,7 +13,7 @@ same-length : tie.Need-same-length
 same-length c = search needs
 
 returns : tie.Need-returns
-returns c = numbered writtenNumber (c .written .ensures) (c .before .before .before .aggregate-feasibility .ensures)
+returns c = record { answer = _; numbers = c .written .ensures; promised = c .before .before .before .aggregate-feasibility .ensures }
 
 pub port-lift-score-spec : {M : Type 1} → statement M
 port-lift-score-spec = tie.close (tie.spec aggregate-feasibility-requires written-requires same-length returns)

@@ -5,9 +5,7 @@ use Rattle.boundary.specs.Boundary.{writtenNumber}
 use mathlib.Core.Path.{_∙_}
 use Rattle.rules.specs.declared.World.{World}
 use Rattle.rules.specs.declared.Offset.{Offset}
-use Rattle.base.specs.Refusal.{refusal, unlessRefused}
-use Rattle.rules.specs.Answers.{writtenAnswer}
-use Rattle.rules.specs.Probabilities.{normaliseChecks, normalised, probabilitiesAt}
+use Rattle.rules.specs.Promises.{Normalises}
 use borrow.Author.Needs.{needs}
 use Rattle.harness_floats.proofs.port_normalise.Statement.{statement}
 use Rattle.harness_floats.proofs.port_normalise.Tie as tie
@@ -31,7 +29,10 @@ returns : tie.Need-returns
 returns c =
     let e = c .before .before .before .before .before .before .before .before .before in
     let a = e .args in
-    numbered-at writtenNumber (λ (w : World) (o : Offset). writtenAnswer (refusal (normaliseChecks (a .probabilities .now) (a .rows) (a .cols) (a .count) w o (a .out .now)))) (λ (w : World) (o : Offset). unlessRefused (refusal (normaliseChecks (a .probabilities .now) (a .rows) (a .cols) (a .count) w o (a .out .now))) (normalised (probabilitiesAt (a .probabilities .now) (a .rows) (a .cols) (a .count) w o)) (a .out .now)) (c .before .before .before .before .before .before .world-at .ensures ∙ world-is (e .fits .row) (e .fits .col)) (c .before .before .before .before .before .offset-at .ensures ∙ offset-is (e .fits .down) (e .fits .across)) (c .written .ensures) (c .before .before .before .get-tile-probabilities-at-position .ensures)
+    numbered-at writtenNumber (λ (w : World) (o : Offset). Normalises (a .probabilities .now) (a .rows) (a .cols) (a .count) w o (a .out .now))
+    (c .before .before .before .before .before .before .world-at .ensures ∙ world-is (e .fits .row) (e .fits .col))
+    (c .before .before .before .before .before .offset-at .ensures ∙ offset-is (e .fits .down) (e .fits .across))
+    (c .written .ensures) (c .before .before .before .get-tile-probabilities-at-position .ensures)
 
 pub port-normalise-spec : {M : Type 1} → statement M
 port-normalise-spec = tie.close (tie.spec world-at-requires offset-at-requires get-tile-probabilities-at-position-requires written-requires same-length returns)

@@ -5,9 +5,7 @@ use Rattle.boundary.specs.Boundary.{writtenNumber}
 use mathlib.Core.Path.{_∙_}
 use Rattle.rules.specs.declared.World.{World}
 use Rattle.rules.specs.declared.Offset.{Offset}
-use Rattle.base.specs.Refusal.{refusal, unlessRefused}
-use Rattle.rules.specs.Answers.{writtenAnswer}
-use Rattle.rules.specs.Probabilities.{influenceChecks, divided}
+use Rattle.rules.specs.Promises.{Divides}
 use Rattle.influence.specs.Step.{blockOf}
 use borrow.Author.Needs.{needs}
 use Rattle.harness_floats.proofs.port_quotient.Statement.{statement}
@@ -32,7 +30,11 @@ returns : tie.Need-returns
 returns c =
     let e = c .before .before .before .before .before .before .before .before .before in
     let a = e .args in
-    numbered-at writtenNumber (λ (w : World) (o : Offset). writtenAnswer (refusal (influenceChecks (a .probabilities .now) (a .rows) (a .cols) (a .count) (blockOf (a .blockrows) (a .blockcols) (a .block .now)) w o (a .radius)))) (λ (w : World) (o : Offset). unlessRefused (refusal (influenceChecks (a .probabilities .now) (a .rows) (a .cols) (a .count) (blockOf (a .blockrows) (a .blockcols) (a .block .now)) w o (a .radius))) (divided (a .rows) (a .cols) (blockOf (a .blockrows) (a .blockcols) (a .block .now)) w o (a .radius) (a .probabilities .now)) (a .probabilities .now)) (c .before .before .before .before .before .before .world-at .ensures ∙ world-is (e .fits .row) (e .fits .col)) (c .before .before .before .before .before .offset-at .ensures ∙ offset-is (e .fits .down) (e .fits .across)) (c .written .ensures) (c .before .before .before .revert-probabilities .ensures)
+    numbered-at writtenNumber
+    (λ (w : World) (o : Offset). Divides (a .rows) (a .cols) (a .count) (blockOf (a .blockrows) (a .blockcols) (a .block .now)) w o (a .radius) (a .probabilities .now))
+    (c .before .before .before .before .before .before .world-at .ensures ∙ world-is (e .fits .row) (e .fits .col))
+    (c .before .before .before .before .before .offset-at .ensures ∙ offset-is (e .fits .down) (e .fits .across))
+    (c .written .ensures) (c .before .before .before .revert-probabilities .ensures)
 
 pub port-quotient-spec : {M : Type 1} → statement M
 port-quotient-spec = tie.close (tie.spec world-at-requires offset-at-requires revert-probabilities-requires written-requires same-length returns)

@@ -1,5 +1,6 @@
 -- `harness_forced::port_forced` meets its contract: the answer by its definition, passed on. Assumes nothing.
 use mathlib.Core.Path.{_∙_, ap₂}
+use Rattle.rules.specs.Grid.{flat}
 use Rattle.rules.specs.Forced.{forcedNeighbours}
 use Rattle.rules.specs.declared.World.{World}
 use Rattle.rules.specs.declared.Offset.{Offset}
@@ -54,7 +55,7 @@ returns c =
     let most = made .before .world-at3 .ensures ∙ world-is (f .maxrow) (f .maxcol) in
     passed-on (λ (x : ForcedAnswer). x .refused) forcedLeft
     (called .detect-forced-positions .ensures
-    ∙ alike (λ (w : World) (o : Offset) (b : GenerationBounds). forcedNeighbours (a .pieces .now) (a .rows) (a .cols) (a .tiles .now) (a .count) w o b)
+    ∙ alike (λ (w : World) (o : Offset) (b : GenerationBounds). forcedNeighbours flat (a .pieces .now) (a .rows) (a .cols) (a .tiles .now) (a .count) w o b)
     (made .before .before .before .before .world-at .ensures ∙ world-is (f .row) (f .col))
     (made .before .before .before .offset-at .ensures ∙ offset-is (f .down) (f .across))
     (made .bounds-from .ensures ∙ ap₂ (boundsFrom (a .within)) least most))

@@ -1,26 +1,20 @@
 -- `harness_forced::slices::put_positions` meets its contract. The loop's invariant: the first i entries are stored. Assumes nothing.
 use Prim.Native.Nat.{_≤_, _-_}
-use mathlib.Core.Path.{_≡_, _∙_, ap}
-use native.Mathlib.Omega.{arith}
-use lib.ListN.{length}
 use borrow.Author.Needs.{needs}
 use Rattle.rules.specs.Bounds.{addedRoom}
-use Rattle.harness_forced.specs.Slices.{placesStored, coloursStored}
-use Rattle.harness_forced.proofs.Crossing.{places-none, places-turn, places-long, colours-none, colours-turn, colours-long, all-stored}
+use Rattle.harness_forced.proofs.Crossing.{Storing, none-stored, one-stored, keeps-places, keeps-colours, all-stored}
 use Rattle.harness_forced.proofs.slices.put_positions.Statement.{statement}
 use Rattle.harness_forced.proofs.slices.put_positions.Tie as tie
 
 abbrev Inv-loop : tie.InvT-loop
 Inv-loop positions coordinates₀ colours₀ len entries i₀ coordinates colours i =
-    (i ≤ addedRoom) × (coordinates ≡ placesStored i entries coordinates₀) × (colours ≡ coloursStored i entries colours₀)
+    (i ≤ addedRoom) × Storing entries i coordinates₀ colours₀ coordinates colours
 
 abbrev μ-loop : tie.MeasureT-loop
 μ-loop positions coordinates₀ colours₀ len entries i₀ coordinates colours i = addedRoom - i
 
 loop-holds : tie.Need-loop-holds Inv-loop μ-loop
-loop-holds c =
-    let a = c .before .before .before .args in
-    (search needs, places-none (a .positions .entries) (a .coordinates .now), colours-none (a .positions .entries) (a .colours .now))
+loop-holds c = (search needs, none-stored _ _ _)
 
 mul-entry : tie.Need-mul-entry Inv-loop μ-loop
 mul-entry c = search needs
@@ -38,26 +32,16 @@ loop-less : tie.Need-loop-less Inv-loop μ-loop
 loop-less c = search needs
 
 loop-again : tie.Need-loop-again Inv-loop μ-loop
-loop-again c =
-    let l = c .before .before .before .before .before .before .before .before in
-    let a = l .before .before .before .before .args in
-    let stored = c .before .before .before .put-entry .ensures in
-    (search needs, places-turn (a .positions .entries) (l .loop .i) (a .coordinates .now) (l .loop .coordinates) (l .loop .inv .1) (stored .0), colours-turn (a .positions .entries) (l .loop .i) (a .colours .now) (l .loop .colours) (l .loop .inv .2) (stored .1))
+loop-again c = (search needs, one-stored _ _ _ _ (c .before .before .before .before .before .before .before .before .loop .inv .1) (c .before .before .before .put-entry .ensures))
 
 put-long-requires : tie.Need-put-long-requires Inv-loop μ-loop
 put-long-requires c κs = search needs
 
 same-length : tie.Need-same-length Inv-loop μ-loop
-same-length c =
-    let l = c .before .before .before .before .before in
-    let a = l .before .before .before .before .args in
-    ap length (l .loop .inv .1) ∙ places-long (a .positions .entries) (l .loop .i) (a .coordinates .now)
+same-length c = keeps-places _ _ _ _ (c .before .before .before .before .before .loop .inv .1)
 
 same-length-2 : tie.Need-same-length-2 Inv-loop μ-loop
-same-length-2 c =
-    let l = c .before .before .before .before .before in
-    let a = l .before .before .before .before .args in
-    ap length (l .loop .inv .2) ∙ colours-long (a .positions .entries) (l .loop .i) (a .colours .now)
+same-length-2 c = keeps-colours _ _ _ _ (c .before .before .before .before .before .loop .inv .1)
 
 same-length-3 : tie.Need-same-length-3 Inv-loop μ-loop
 same-length-3 c = search needs
@@ -65,9 +49,7 @@ same-length-3 c = search needs
 returns : tie.Need-returns Inv-loop μ-loop
 returns c =
     let l = c .before .before .before .before .before in
-    let a = l .before .before .before .before .args in
-    let all : l .loop .i ≡ addedRoom = omega (arith, l .loop .inv .0, c .before .before .before .before .loop-test .left) in
-    all-stored (a .positions .entries) addedRoom (l .loop .i) (a .positions .len) (a .coordinates .now) (a .colours .now) (a .len .now) all (l .loop .inv .1) (l .loop .inv .2) (c .before .before .put-long .ensures)
+    all-stored _ _ _ addedRoom _ _ _ (l .loop .inv .0) (c .before .before .before .before .loop-test .left) (l .loop .inv .1) (c .before .before .put-long .ensures)
 
 pub put-positions-spec : {M : Type 1} → statement M
 put-positions-spec =
