@@ -1,4 +1,3 @@
 pub mod Radius
 pub mod Spanned
 pub mod Coincide
-pub mod Spanned
