@@ -8,3 +8,4 @@ pub mod Regions
 pub mod Chain
 pub mod Answered
 pub mod Signs
+pub mod Bits

@@ -12,7 +12,7 @@ use Rattle.rules.specs.Bounds.{maxColours}
 use Rattle.rules.specs.Sets.{marksWithin, setChecks, setsChecks, listedOr, colourList}
 use Rattle.rules.specs.declared.TileBitset.{TileBitset}
 use Rattle.rules.specs.declared.ColourList.{ColourList}
-use Rattle.checks.proofs.Sides.{count-most}
+use Rattle.check_sizes.proofs.Sides.{count-most}
 
 pub list-refused : (cs : Checks) (l : List ℕ) (n : ℕ) → refusing n ≡ true → n ≡ refusal cs → colourList n [] ≡ listedOr (refusal cs) l
 list-refused cs l n t e = refuses listedOr (λ m. colourList m []) (λ m k. refl) cs l n t e

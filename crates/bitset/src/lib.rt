@@ -21,7 +21,7 @@ fn marks_within(set: TileBitset) -> bool
 fn set_refusal(set: TileBitset) -> u8
     ensures { λ r. ⌜ r ≡ refusal (setChecks set) ⌝ }
 {
-    if !checks::colour_count(set.size) {
+    if !check_sizes::colour_count(set.size) {
         return rules::COUNT;
     }
     if !marks_within(set) {
@@ -33,7 +33,7 @@ fn set_refusal(set: TileBitset) -> u8
 fn sets_refusal(set: TileBitset, other: TileBitset) -> u8
     ensures { λ r. ⌜ r ≡ refusal (setsChecks set other) ⌝ }
 {
-    if !checks::colour_count(set.size) {
+    if !check_sizes::colour_count(set.size) {
         return rules::COUNT;
     }
     if set.size != other.size {
@@ -51,7 +51,7 @@ fn sets_refusal(set: TileBitset, other: TileBitset) -> u8
 pub fn new(size: u32) -> SetAnswer
     ensures { λ r. ⌜ r ≡ emptySet size ⌝ }
 {
-    if checks::colour_count(size) {
+    if check_sizes::colour_count(size) {
         SetAnswer::Set(TileBitset {
             bits: 0,
             size: size,
@@ -64,10 +64,10 @@ pub fn new(size: u32) -> SetAnswer
 pub fn all(size: u32) -> SetAnswer
     ensures { λ r. ⌜ r ≡ fullSet size ⌝ }
 {
-    if !checks::colour_count(size) {
+    if !check_sizes::colour_count(size) {
         return SetAnswer::Refused(rules::COUNT);
     }
-    let bits = sets::all_colours(size);
+    let bits = bitset_colours::all_colours(size);
     SetAnswer::Set(TileBitset {
         bits: bits,
         size: size,
@@ -85,7 +85,7 @@ pub fn insert(set: TileBitset, tile: u32) -> SetAnswer
     if set.size < tile {
         return SetAnswer::Set(set);
     }
-    let bits = sets::with_colour(set.bits, tile);
+    let bits = bitset_colours::with_colour(set.bits, tile);
     SetAnswer::Set(TileBitset {
         bits: bits,
         size: set.size,
@@ -102,7 +102,7 @@ pub fn contains(set: TileBitset, tile: u32) -> Verdict
     if set.size < tile {
         return Verdict::Is(false);
     }
-    Verdict::Is(sets::has_colour(set.bits, tile))
+    Verdict::Is(bitset_colours::has_colour(set.bits, tile))
 }
 
 pub fn intersection(set: TileBitset, other: TileBitset) -> SetAnswer
@@ -112,7 +112,7 @@ pub fn intersection(set: TileBitset, other: TileBitset) -> SetAnswer
     if refused != 0 {
         return SetAnswer::Refused(refused);
     }
-    let bits = sets::common_colours(set.bits, other.bits);
+    let bits = bitset_colours::common_colours(set.bits, other.bits);
     SetAnswer::Set(TileBitset {
         bits: bits,
         size: set.size,
@@ -126,7 +126,7 @@ pub fn is_empty(set: TileBitset) -> Verdict
     if refused != 0 {
         return Verdict::Refused(refused);
     }
-    Verdict::Is(sets::no_colour(set.bits))
+    Verdict::Is(bitset_colours::no_colour(set.bits))
 }
 
 pub fn count(set: TileBitset) -> Number
@@ -136,7 +136,7 @@ pub fn count(set: TileBitset) -> Number
     if refused != 0 {
         return Number::Refused(refused);
     }
-    Number::Is(sets::colours_in(set.bits) as usize)
+    Number::Is(bitset_colours::colours_in(set.bits) as usize)
 }
 
 pub fn to_vec(set: TileBitset) -> ColourList
@@ -150,5 +150,5 @@ pub fn to_vec(set: TileBitset) -> ColourList
             len: 0,
         };
     }
-    sets::members(set.bits, set.size)
+    bitset_colours::members(set.bits, set.size)
 }

@@ -27,14 +27,14 @@ use Rattle.rules.specs.declared.SpanAnswer.{SpanAnswer}
 use Rattle.rules.specs.declared.SpanAnswer.the-variants.{Spans}
 use Rattle.rules.specs.declared.TileNumber.{TileNumber}
 use Rattle.rules.specs.declared.TileNumber.the-variants.{Tiles}
-use Rattle.checks.proofs.Sides.{none-above, count-most}
-use Rattle.checks.proofs.Tiled.{so-many}
+use Rattle.check_sizes.proofs.Sides.{none-above, count-most}
+use Rattle.check_sizes.proofs.Tiled.{so-many}
 use Rattle.places.proofs.Indices.{placed}
-use Rattle.windows.proofs.Accepted.{ready-from}
-use Rattle.nearness.specs.Near.{nearSpans}
-use Rattle.nearness.proofs.Leaning.{on-plane}
-use Rattle.nearness.proofs.Placing.{place-passes, nearby}
-use Rattle.moves.specs.Standing.{Standing}
+use Rattle.fit_windows.proofs.Accepted.{ready-from}
+use Rattle.board_near.specs.Near.{nearSpans}
+use Rattle.board_near.proofs.Leaning.{on-plane}
+use Rattle.board_near.proofs.Placing.{place-passes, nearby}
+use Rattle.board_moves.specs.Standing.{Standing}
 
 pub contents-by : (tiles : List ℕ) (count : ℕ) (b : Board) (a : TileNumber) (x : ℕ) → a ≡ Tiles x → a ≡ tilesCounted tiles
     → (m : ℕ) → m ≡ refusal (boardContents tiles count b x) → m ≡ refusal (boardContents tiles count b (tilesIn tiles))

@@ -1,15 +1,15 @@
 // Lay and lift on a board, three lent planes, pieces, weights and counts. A refused call changes none of them. Places are wall
 // coordinates; the offset leads to the cell.
 ghost use Rattle.rules.specs.Promises.{before, boardBefore, boardAfter, panel, Lays, Lifts};
-use checks::tile_number;
-use moves::lay_at;
-use moves::lift_at;
-use nearness::near_spans;
+use board_moves::lay_at;
+use board_moves::lift_at;
+use board_near::near_spans;
+use board_planes::contents_refused;
+use board_planes::laying_refused;
+use board_planes::lengths_refused;
+use board_planes::lifting_refused;
+use check_sizes::tile_number;
 use places::cell_of;
-use planes::contents_refused;
-use planes::laying_refused;
-use planes::lengths_refused;
-use planes::lifting_refused;
 use rules::LayAnswer;
 use rules::LiftAnswer;
 use rules::Offset;

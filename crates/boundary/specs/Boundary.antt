@@ -6,7 +6,7 @@ use mathlib.Core.Path.{_≡_}
 use mathlib.Core.List.{List}
 use lib.Ieee.{Float}
 use Rattle.base.specs.Refusal.{Gives}
-use Rattle.slots.specs.Slots.{put, digitOf}
+use Rattle.boundary_slots.specs.Slots.{put, digitOf}
 use Rattle.rules.specs.declared.TileBitset.{TileBitset}
 use Rattle.rules.specs.declared.Listing.{Listing}
 use Rattle.rules.specs.declared.Listing.the-variants as Listing·

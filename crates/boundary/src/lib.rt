@@ -3,14 +3,14 @@
 ghost use mathlib.Core.Path.{_≡_};
 ghost use Rattle.rules.specs.Promises.{before, after};
 ghost use Rattle.boundary.specs.Boundary.{writtenNumber, layNumber, liftNumber, TellsListing, TellsSet, TellsVerdict};
+use boundary_slots::digit;
+use boundary_slots::put_word;
 use rules::LayAnswer;
 use rules::LiftAnswer;
 use rules::Listing;
 use rules::SetAnswer;
 use rules::Verdict;
 use rules::Written;
-use slots::digit;
-use slots::put_word;
 
 pub fn written(answer: Written) -> u32
     ensures { λ r. ⌜ r ≡ writtenNumber answer ⌝ }

@@ -42,7 +42,7 @@ pub fn extend_array_2d_f64(
     if refused != 0 {
         return Written::Refused(refused);
     }
-    if !contents::all_numbers(plane) {
+    if !check_contents::all_numbers(plane) {
         return Written::Refused(rules::NUMBER);
     }
     fill_f64(target);

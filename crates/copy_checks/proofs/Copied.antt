@@ -24,7 +24,7 @@ use Rattle.rules.specs.Bounds.{maxBoardSide, maxCells}
 use Rattle.rules.specs.Grid.{cellAt, numberOf}
 use Rattle.rules.specs.Places.{newRows, newCols, copiedCell, copied}
 use Rattle.rules.specs.declared.Pads.{Pads}
-use Rattle.checks.proofs.Sides.{board-rows, board-cols, few-cells}
+use Rattle.check_sizes.proofs.Sides.{board-rows, board-cols, few-cells}
 use Rattle.copy_checks.specs.Laid.{Sized, laidCell, rowsLaid}
 
 -- ---- along a row

@@ -46,20 +46,20 @@ fn larger_cells(rows: usize, cols: usize, pads: Pads) -> usize
     requires { ⌜ boardSides (newRows rows pads) (newCols cols pads) ≡ true ⌝ }
     ensures { λ r. ⌜ r ≡ newRows rows pads * newCols cols pads ⌝ }
 {
-    checks::cells_of(pads.left + rows + pads.right, pads.top + cols + pads.bottom)
+    check_sizes::cells_of(pads.left + rows + pads.right, pads.top + cols + pads.bottom)
 }
 
 // The checks of both calls, on a plane of `held` cells and a target with room for `room`; 0 where all pass.
 pub fn copy_refused(rows: usize, cols: usize, pads: Pads, held: usize, room: usize) -> u8
     ensures { λ r. ⌜ r ≡ refusal (sizeChecks rows cols pads held room) ⌝ }
 {
-    if !checks::board_sides(rows, cols) {
+    if !check_sizes::board_sides(rows, cols) {
         return rules::SHAPE;
     }
     if !larger_sides(rows, cols, pads) {
         return rules::SHAPE;
     }
-    if held != checks::cells_of(rows, cols) {
+    if held != check_sizes::cells_of(rows, cols) {
         return rules::LENGTH;
     }
     if room != larger_cells(rows, cols, pads) {

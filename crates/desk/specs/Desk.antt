@@ -9,7 +9,7 @@ use Rattle.rules.specs.Board.{Board}
 use Rattle.rules.specs.Promises.{panel, Lays, Lifts}
 use Rattle.rules.specs.declared.Listing.{Listing}
 use Rattle.rules.specs.declared.Listing.the-variants as Listing·
-use Rattle.slots.specs.Slots.{put, world, offsetBy}
+use Rattle.boundary_slots.specs.Slots.{put, world, offsetBy}
 use Rattle.boundary.specs.Boundary.{Numbered, listingNumber, layNumber, liftNumber}
 
 -- what a listing leaves in the words lent for it: the set of colours in the first, colour t as bit t-1; nothing where it is refused

@@ -5,10 +5,10 @@ ghost use Rattle.rules.specs.Promises.{before, after, boardBefore, boardAfter};
 ghost use Rattle.desk.specs.Desk.{TellsColours, DeskLists, DeskLays, DeskLifts};
 use boundary::laid;
 use boundary::lifted;
+use boundary_slots::offset_at;
+use boundary_slots::put_long;
+use boundary_slots::world_at;
 use rules::Listing;
-use slots::offset_at;
-use slots::put_long;
-use slots::world_at;
 
 // The set goes over as one word of 64 bits, so that sets to 64 colours leave the C side as it is; further words are for what a listing may
 // tell one day beside its colours.

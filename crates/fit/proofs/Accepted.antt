@@ -21,9 +21,9 @@ use Rattle.rules.specs.Scores.{fractionChecks}
 use Rattle.rules.specs.declared.World.{World}
 use Rattle.rules.specs.declared.Cell.{Cell}
 use Rattle.rules.specs.declared.Offset.{Offset}
-use Rattle.checks.proofs.Sides.{few-cells, long, tiles-most}
+use Rattle.check_sizes.proofs.Sides.{few-cells, long, tiles-most}
 use Rattle.places.proofs.Indices.{placed, row-below, col-below}
-use Rattle.pattern.specs.Ready.{OnGrid}
+use Rattle.fit_pattern.specs.Ready.{OnGrid}
 
 -- a cell that was tested, and the cell of a place that was not refused
 pub grid-on : (rows cols : ℕ) (cell : Cell) → onGrid rows cols cell ≡ true → OnGrid rows cols (cell .0) (cell .1)

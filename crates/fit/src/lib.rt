@@ -20,16 +20,16 @@ use rules::World;
 pub fn pieces_refused(pieces: &[u32], rows: usize, cols: usize, tiles: &[u8], count: u32) -> u8
     ensures { λ r. ⌜ r ≡ refusal (piecesChecks (before pieces) rows cols (before tiles) count) ⌝ }
 {
-    if !checks::board_sides(rows, cols) {
+    if !check_sizes::board_sides(rows, cols) {
         return rules::SHAPE;
     }
-    if !checks::words_have_length(pieces, checks::cells_of(rows, cols)) {
+    if !check_sizes::words_have_length(pieces, check_sizes::cells_of(rows, cols)) {
         return rules::LENGTH;
     }
-    if !checks::whole_tiles(tiles) {
+    if !check_sizes::whole_tiles(tiles) {
         return rules::LENGTH;
     }
-    contents::colours_refused(tiles, count, pieces)
+    check_contents::colours_refused(tiles, count, pieces)
 }
 
 // The colours that fit at a place.
@@ -52,7 +52,7 @@ pub fn compute_viable_tiles_at_position(
     if misplaced != 0 {
         return Listing::Refused(misplaced);
     }
-    windows::viable_tiles_at(
+    fit_windows::viable_tiles_at(
         pieces,
         rows,
         cols,
@@ -86,22 +86,22 @@ pub fn count_fitting(
     if !on_grid(rows, cols, start) {
         return Number::Refused(rules::PLACE);
     }
-    Number::Is(windows::fit_count_at(pieces, rows, cols, tiles, start.0, start.1) as usize)
+    Number::Is(fit_windows::fit_count_at(pieces, rows, cols, tiles, start.0, start.1) as usize)
 }
 
 fn fraction_refused(counts: &[u32], rows: usize, cols: usize, tiles: usize, cell: Cell) -> u8
     ensures { λ r. ⌜ r ≡ refusal (fractionChecks (before counts) rows cols tiles cell) ⌝ }
 {
-    if !checks::board_sides(rows, cols) {
+    if !check_sizes::board_sides(rows, cols) {
         return rules::SHAPE;
     }
-    if !checks::words_have_length(counts, checks::cells_of(rows, cols)) {
+    if !check_sizes::words_have_length(counts, check_sizes::cells_of(rows, cols)) {
         return rules::LENGTH;
     }
-    if !checks::tile_number_fits(tiles) {
+    if !check_sizes::tile_number_fits(tiles) {
         return rules::LENGTH;
     }
-    if !contents::no_word_above(counts, tiles as u32) {
+    if !check_contents::no_word_above(counts, tiles as u32) {
         return rules::CELL;
     }
     if !on_grid(rows, cols, cell) {

@@ -5,7 +5,7 @@ use lib.IntN.{ℤ}
 use Rattle.rules.specs.Grid.{flat}
 use Rattle.rules.specs.Fit.{listing}
 use Rattle.rules.specs.Promises.{panel, Recounts}
-use Rattle.slots.specs.Slots.{world, offsetBy}
+use Rattle.boundary_slots.specs.Slots.{world, offsetBy}
 use Rattle.boundary.specs.Boundary.{Numbered, writtenNumber, TellsListing}
 
 abbrev pub PortLists : List ℕ → ℕ → ℕ → List ℕ → ℕ → ℤ → ℤ → ℤ → ℤ → List ℕ → ℕ → List ℕ → Type 0

@@ -7,7 +7,7 @@ ghost use Rattle.rules.specs.Places.{regionSpans};
 ghost use Rattle.rules.specs.Scores.{fractionAt};
 ghost use Rattle.rules.specs.Sets.{emptySet, fullSet, inserted, contained, intersected, emptiness, membersCounted};
 ghost use Rattle.rules.specs.Promises.{before, after, boardBefore, boardAfter, Freshens, Raises, Lowers};
-ghost use Rattle.slots.specs.Slots.{world, offsetBy, setFrom};
+ghost use Rattle.boundary_slots.specs.Slots.{world, offsetBy, setFrom};
 ghost use Rattle.boundary.specs.Boundary.{Numbered, writtenNumber};
 ghost use Rattle.boundary.specs.Boundary.{TellsDeadEnd, TellsSpans, TellsSet, TellsVerdict, TellsCount, TellsFraction};
 ghost use Rattle.harness.specs.Harness.{PortLists, PortRecounts};
@@ -15,14 +15,14 @@ use boundary::listed;
 use boundary::set_given;
 use boundary::told;
 use boundary::written;
-use longs::counted;
-use longs::divided;
-use longs::scanned;
-use longs::spanned;
+use boundary_longs::counted;
+use boundary_longs::divided;
+use boundary_longs::scanned;
+use boundary_longs::spanned;
+use boundary_slots::offset_at;
+use boundary_slots::world_at;
 use rules::Cell;
 use rules::TileBitset;
-use slots::offset_at;
-use slots::world_at;
 
 #[no_mangle]
 pub extern "C" fn port_listing(
@@ -65,7 +65,7 @@ pub extern "C" fn port_scan(
 ) -> u32
     ensures { λ r. ⌜ TellsDeadEnd (deadEnd flat (before pieces) (before weights) rows cols (before tiles) count) (before out) r (after out) ⌝ }
 {
-    let answer = scan::check_for_contradiction(pieces, weights, rows, cols, tiles, count);
+    let answer = fit_scan::check_for_contradiction(pieces, weights, rows, cols, tiles, count);
     scanned(answer, out)
 }
 
@@ -80,7 +80,7 @@ pub extern "C" fn port_fresh(
 ) -> u32
     ensures { λ r. ⌜ Numbered writtenNumber (Freshens rows cols tiles (boardBefore pieces weights counts)) r (boardAfter pieces weights counts) ⌝ }
 {
-    let answer = planes::fresh(pieces, weights, counts, rows, cols, tiles);
+    let answer = board_fresh::fresh(pieces, weights, counts, rows, cols, tiles);
     written(answer)
 }
 
@@ -97,7 +97,7 @@ pub extern "C" fn port_get_region_spans(
 {
     let position = world_at(row, col);
     let offset = offset_at(down, across);
-    let answer = spans::get_region_spans(offset, position, radius);
+    let answer = place_spans::get_region_spans(offset, position, radius);
     spanned(answer, out)
 }
 
@@ -216,7 +216,7 @@ pub extern "C" fn port_raise_weights(
 {
     let position = world_at(row, col);
     let offset = offset_at(down, across);
-    let answer = steps::raise_adjacency_weights(weights, rows, cols, position, offset);
+    let answer = board_weight_calls::raise_adjacency_weights(weights, rows, cols, position, offset);
     written(answer)
 }
 
@@ -234,7 +234,13 @@ pub extern "C" fn port_lower_weights(
 {
     let position = world_at(row, col);
     let offset = offset_at(down, across);
-    let answer = steps::revert_adjacency_weights(weights, rows, cols, position, offset);
+    let answer = board_weight_calls::revert_adjacency_weights(
+        weights,
+        rows,
+        cols,
+        position,
+        offset,
+    );
     written(answer)
 }
 
@@ -255,7 +261,7 @@ pub extern "C" fn port_recount(
 {
     let position = world_at(row, col);
     let offset = offset_at(down, across);
-    let answer = recount::recount_feasibility(
+    let answer = board_recount::recount_feasibility(
         counts,
         pieces,
         rows,

@@ -1,14 +1,14 @@
 // The float steps for tests in another language: each hands its call the numbers and slices that it is given and tells its answer as crate
 // boundary does.
 ghost use Rattle.rules.specs.Promises.{before, after, Normalises, Multiplies, Divides, ScoresLay, ScoresLift};
-ghost use Rattle.influence.specs.Step.{blockOf};
-ghost use Rattle.slots.specs.Slots.{world, offsetBy};
+ghost use Rattle.probability_influence.specs.Step.{blockOf};
+ghost use Rattle.boundary_slots.specs.Slots.{world, offsetBy};
 ghost use Rattle.boundary.specs.Boundary.{Numbered, writtenNumber};
 ghost use Rattle.harness_floats.specs.Spans.{spanFrom};
 use boundary::written;
+use boundary_slots::offset_at;
+use boundary_slots::world_at;
 use rules::Span;
-use slots::offset_at;
-use slots::world_at;
 
 #[no_mangle]
 pub extern "C" fn port_normalise(

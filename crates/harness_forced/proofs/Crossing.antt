@@ -18,7 +18,7 @@ use Rattle.rules.specs.Forced.{padded, noPosition}
 use Rattle.rules.specs.declared.ForcedPosition.{ForcedPosition}
 use Rattle.rules.specs.declared.ForcedPositions.{ForcedPositions}
 use Rattle.places.proofs.Wide.{same}
-use Rattle.slots.specs.Slots.{put, world}
+use Rattle.boundary_slots.specs.Slots.{put, world}
 use Rattle.harness_forced.specs.Slices.{entryAt, slices, placeStored, placesStored, coloursStored, stored, foundLeft, positionsStored, Slices, taking}
 
 -- ---- what goes in

@@ -27,7 +27,7 @@ use Rattle.rules.specs.declared.Next.{Next}
 use Rattle.rules.specs.declared.Next.the-variants as Next·
 use Rattle.rules.specs.declared.Written.{Written}
 use Rattle.rules.specs.declared.Written.the-variants as Written·
-use Rattle.slots.specs.Slots.{put, world}
+use Rattle.boundary_slots.specs.Slots.{put, world}
 use Rattle.boundary.specs.Boundary.{writtenNumber}
 
 -- the slices that hold positions

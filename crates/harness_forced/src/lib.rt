@@ -2,13 +2,13 @@
 // and tells its answer as crate boundary does. Positions cross as specs/Slices.antt has them.
 ghost use Rattle.rules.specs.Forced.{queueEmpty, queueLength};
 ghost use Rattle.rules.specs.Promises.{before, after};
-ghost use Rattle.slots.specs.Slots.{world, offsetBy};
+ghost use Rattle.boundary_slots.specs.Slots.{world, offsetBy};
 ghost use Rattle.boundary.specs.Boundary.{TellsVerdict, TellsCount};
 ghost use Rattle.harness_forced.specs.Slices.{queueFrom, positionsFrom, boundsFrom, PortForces, PortAdds, PortTakes};
 use boundary::told;
-use longs::counted;
-use slots::offset_at;
-use slots::world_at;
+use boundary_longs::counted;
+use boundary_slots::offset_at;
+use boundary_slots::world_at;
 
 mod lent;
 mod slices;
@@ -41,7 +41,7 @@ pub extern "C" fn port_forced(
     let least = world_at(minrow, mincol);
     let most = world_at(maxrow, maxcol);
     let bounds = slices::bounds_from(within, least, most);
-    let answer = forced::detect_forced_positions(
+    let answer = fit_forced::detect_forced_positions(
         pieces,
         rows,
         cols,

@@ -6,10 +6,13 @@ ghost use lib.IntN.{pos};
 ghost use Rattle.rules.specs.Bounds.{queueRoom};
 ghost use Rattle.base.specs.Refusal.{Gives};
 ghost use Rattle.rules.specs.Promises.{before, after};
-ghost use Rattle.slots.specs.Slots.{put};
+ghost use Rattle.boundary_slots.specs.Slots.{put};
 ghost use Rattle.boundary.specs.Boundary.{writtenNumber};
 ghost use Rattle.harness_forced.specs.Slices.{entryAt, queueFrom, positionsFrom, boundsFrom, slicesBefore, slicesAfter};
 ghost use Rattle.harness_forced.specs.Slices.{placeStored, queueStored, positionsStored, addedLeft, TellsNext, foundLeft};
+use boundary_slots::put_long;
+use boundary_slots::put_signed;
+use boundary_slots::put_word;
 use rules::BoundingBox;
 use rules::ForcedPipeline;
 use rules::ForcedPosition;
@@ -18,9 +21,6 @@ use rules::GenerationBounds;
 use rules::Next;
 use rules::World;
 use rules::Written;
-use slots::put_long;
-use slots::put_signed;
-use slots::put_word;
 
 fn signed_at(words: &[i32], at: usize) -> i32
     ensures { λ r. ⌜ r ≡ getD (before words) at (pos 0) ⌝ }

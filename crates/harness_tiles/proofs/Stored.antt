@@ -15,7 +15,7 @@ use Rattle.base.proofs.Chain.{kept-old, has-new}
 use Rattle.rules.specs.declared.ColourList.{ColourList}
 use Rattle.rules.specs.declared.World.{World}
 use Rattle.rules.specs.declared.BoundingBox.{BoundingBox}
-use Rattle.slots.specs.Slots.{put}
+use Rattle.boundary_slots.specs.Slots.{put}
 use Rattle.harness_tiles.specs.Lent.{boxOf, putFrom, extended, Bytes, bytesWith, listLeft}
 
 -- one value stored, and what is left to store

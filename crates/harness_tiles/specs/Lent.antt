@@ -16,7 +16,7 @@ use Rattle.rules.specs.declared.Pads.{Pads}
 use Rattle.rules.specs.declared.ColourList.{ColourList}
 use Rattle.rules.specs.declared.ExtensionAnswer.{ExtensionAnswer}
 use Rattle.rules.specs.declared.ExtensionAnswer.the-variants as ExtensionAnswer·
-use Rattle.slots.specs.Slots.{world, put, digitOf}
+use Rattle.boundary_slots.specs.Slots.{world, put, digitOf}
 use Rattle.boundary.specs.Boundary.{tilesNumber, tilesLeft}
 
 -- ---- what goes in

@@ -4,17 +4,17 @@ ghost use mathlib.Core.Path.{_≡_};
 ghost use lib.ListN.{getD};
 ghost use Rattle.rules.specs.Promises.{before, after};
 ghost use Rattle.harness_tiles.specs.Lent.{boxOf, nineOf, putFrom, padsStored, offsetStored, TellsExtension, TellsColours};
+use boundary_slots::digit;
+use boundary_slots::put_byte;
+use boundary_slots::put_long;
+use boundary_slots::put_signed;
+use boundary_slots::put_word;
+use boundary_slots::world_at;
 use rules::BoundingBox;
 use rules::ColourList;
 use rules::ExtensionAnswer;
 use rules::Offset;
 use rules::Pads;
-use slots::digit;
-use slots::put_byte;
-use slots::put_long;
-use slots::put_signed;
-use slots::put_word;
-use slots::world_at;
 
 pub fn box_at(minrow: i32, mincol: i32, maxrow: i32, maxcol: i32) -> BoundingBox
     ensures { λ r. ⌜ r ≡ boxOf minrow mincol maxrow maxcol ⌝ }

@@ -5,17 +5,17 @@ ghost use Rattle.rules.specs.Places.{boxContains, extensionOf, boxedExtension};
 ghost use Rattle.rules.specs.Sets.{membersListed};
 ghost use Rattle.rules.specs.Tiles.{rotated, reflected, membership};
 ghost use Rattle.rules.specs.Promises.{before, after, CopiesWords, CopiesFloats};
-ghost use Rattle.slots.specs.Slots.{world, offsetBy, setFrom};
+ghost use Rattle.boundary_slots.specs.Slots.{world, offsetBy, setFrom};
 ghost use Rattle.boundary.specs.Boundary.{Numbered, writtenNumber, TellsSet, TellsVerdict};
 ghost use Rattle.harness_tiles.specs.Lent.{boxOf, padsBy, nineOf, putFrom, TellsExtension, TellsColours, PortExtracts};
 use boundary::set_given;
 use boundary::told;
 use boundary::written;
-use longs::extracted;
+use boundary_longs::extracted;
+use boundary_slots::offset_at;
+use boundary_slots::world_at;
 use rules::Pads;
 use rules::TileBitset;
-use slots::offset_at;
-use slots::world_at;
 
 mod lent;
 
@@ -33,7 +33,7 @@ pub extern "C" fn port_contains(
 {
     let bounds = lent::box_at(minrow, mincol, maxrow, maxcol);
     let position = world_at(row, col);
-    let answer = boxes::contains(bounds, position);
+    let answer = place_boxes::contains(bounds, position);
     told(answer, out)
 }
 
@@ -54,7 +54,7 @@ pub extern "C" fn port_calculate_extension(
 {
     let position = world_at(row, col);
     let from = offset_at(down, across);
-    let answer = extension::calculate_extension(rows, cols, from, position, radius);
+    let answer = place_extension::calculate_extension(rows, cols, from, position, radius);
     lent::extension_told(answer, pads, offset, needed)
 }
 
@@ -81,7 +81,7 @@ pub extern "C" fn port_constrained_extension(
     let position = world_at(row, col);
     let from = offset_at(down, across);
     let bounds = lent::box_at(minrow, mincol, maxrow, maxcol);
-    let answer = extension::constrained_extension(rows, cols, from, position, radius, bounds);
+    let answer = place_extension::constrained_extension(rows, cols, from, position, radius, bounds);
     lent::extension_told(answer, pads, offset, needed)
 }
 
@@ -160,7 +160,7 @@ pub extern "C" fn port_extract_tiles(
 pub extern "C" fn port_rotate_90(tile: &[u8], out: &mut [u8])
     ensures { λ _. ⌜ after out ≡ putFrom 0 (rotated (nineOf (before tile))) (before out) ⌝ }
 {
-    let turned = forms::rotate_90(lent::tile_of(tile));
+    let turned = tile_forms::rotate_90(lent::tile_of(tile));
     lent::put_bytes(out, &turned);
 }
 
@@ -168,7 +168,7 @@ pub extern "C" fn port_rotate_90(tile: &[u8], out: &mut [u8])
 pub extern "C" fn port_reflect(tile: &[u8], out: &mut [u8])
     ensures { λ _. ⌜ after out ≡ putFrom 0 (reflected (nineOf (before tile))) (before out) ⌝ }
 {
-    let mirrored = forms::reflect(lent::tile_of(tile));
+    let mirrored = tile_forms::reflect(lent::tile_of(tile));
     lent::put_bytes(out, &mirrored);
 }
 
@@ -176,6 +176,6 @@ pub extern "C" fn port_reflect(tile: &[u8], out: &mut [u8])
 pub extern "C" fn port_membership(tile: &[u8], count: u32, out: &mut [u32]) -> u32
     ensures { λ r. ⌜ TellsSet (membership (nineOf (before tile)) count) (before out) r (after out) ⌝ }
 {
-    let answer = membership::convert_tile_to_membership_booleans(lent::tile_of(tile), count);
+    let answer = tiles::convert_tile_to_membership_booleans(lent::tile_of(tile), count);
     set_given(answer, out)
 }

@@ -12,11 +12,11 @@ fn list_case(k: usize) -> bool {
     if file < 0 {
         return false;
     }
-    let mut input = [0u8; lister::INPUT_ROOM];
+    let mut input = [0u8; listing_text::INPUT_ROOM];
     let read = io::read_full(file, &mut input);
     libc::close(file);
-    let mut out = [0u8; lister::MAX_OUTPUT];
-    let written = lister::list(&input[..read], &mut out);
+    let mut out = [0u8; listing_text::MAX_OUTPUT];
+    let written = listing_text::list(&input[..read], &mut out);
     io::write_all(STDOUT_FILENO, b"case ");
     io::write_all(STDOUT_FILENO, &name);
     io::write_all(STDOUT_FILENO, b"\n");

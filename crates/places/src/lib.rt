@@ -2,6 +2,7 @@
 // only here. Their sum is taken in 64 bits, where no two of them overflow, so that these functions ask nothing of their input: a
 // neighbour of a place on the wall may lie off it.
 ghost use mathlib.Core.Path.{_≡_};
+ghost use Prim.Native.Nat.{min};
 ghost use mathlib.Core.Bool.{_&&_};
 ghost use lib.IntN.{_+ℤ_};
 ghost use Rattle.base.specs.Whole.{clip, withinZ, indexBelow};
@@ -46,6 +47,12 @@ pub fn clip_to(z: i64) -> usize
     ensures { λ r. ⌜ r ≡ clip z ⌝ }
 {
     if z < 0 { 0 } else { z as usize }
+}
+
+pub fn least(a: usize, b: usize) -> usize
+    ensures { λ r. ⌜ r ≡ min a b ⌝ }
+{
+    if a <= b { a } else { b }
 }
 
 fn index_below(n: usize, z: i64) -> bool

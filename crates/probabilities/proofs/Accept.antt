@@ -12,7 +12,7 @@ use Rattle.base.specs.Refusal.{refusal}
 use Rattle.base.proofs.Bools.{and-left, and-right}
 use Rattle.base.proofs.Numbers.{within-high}
 use Rattle.base.proofs.Chain.{all-pass}
-use Rattle.checks.proofs.Sides.{long}
+use Rattle.check_sizes.proofs.Sides.{long}
 use Rattle.rules.specs.Bounds.{maxRadius, maxInfluenceSide}
 use Rattle.rules.specs.Tests.{boardSides, colourCount}
 use Rattle.rules.specs.Floats.{isNumber, isFinite, allAre}
@@ -20,7 +20,7 @@ use Rattle.rules.specs.Probabilities.{Block, normaliseChecks, influenceChecks}
 use Rattle.rules.specs.declared.World.{World}
 use Rattle.rules.specs.declared.Offset.{Offset}
 use Rattle.places.proofs.Indices.{Placed}
-use Rattle.taking.specs.Fits.{PlaceFits}
+use Rattle.probability_normal.specs.Fits.{PlaceFits}
 
 pub record NormalPasses (plane out : List Float) (rows cols count : ℕ) : Type 0 where
   pub fits : PlaceFits plane out rows cols count

@@ -18,8 +18,8 @@ use Rattle.base.specs.Tables.{tab}
 use Rattle.base.proofs.Bools.{and-left, and-right, by-test}
 use Rattle.base.proofs.Numbers.{cell-lt, row-lt}
 use Rattle.base.proofs.Tabled.{length-tab, getD-tab}
-use Rattle.checks.proofs.Sides.{board-rows, board-cols, count-least, count-most}
-use Rattle.rules.specs.Floats.{zero64, one64, over, floatOf, isNumber, isFinite, allAre}
+use Rattle.check_sizes.proofs.Sides.{board-rows, board-cols, count-least, count-most}
+use Rattle.rules.specs.Floats.{zero64, one64, over, floatOf, isNumber, isFinite, noNan, allAre}
 use Rattle.rules.specs.Tests.{onBoard}
 use Rattle.rules.specs.Places.{cellOf}
 use Rattle.rules.specs.Grid.{numberOf}
@@ -29,9 +29,8 @@ use Rattle.rules.proofs.Answered.{was-written}
 use Rattle.rules.specs.declared.World.{World}
 use Rattle.rules.specs.declared.Offset.{Offset}
 use Rattle.rules.specs.declared.Written.the-variants.{Done}
-use Rattle.floats.specs.Numbers.{noNan}
-use Rattle.floats.proofs.Numbers.{finite-number, times-finite, over-finite, over-positive, count-positive, is-finite, is-number, all-at, all-tab, one-finite}
-use Rattle.normal.proofs.Normal.{map-tab, shares, uniform}
+use Rattle.rules.proofs.Floats.{finite-number, times-finite, over-finite, over-positive, count-positive, is-finite, is-number, all-at, all-tab, one-finite}
+use Rattle.probability_normal.proofs.Normal.{map-tab, shares, uniform}
 use Rattle.places.proofs.Indices.{number-below}
 use Rattle.probabilities.proofs.Accept.{NormalPasses, normal-passes, StepPasses, step-passes}
 use Rattle.probabilities.proofs.Total.{usable-positive, total-positive}

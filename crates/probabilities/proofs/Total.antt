@@ -22,7 +22,7 @@ use Rattle.base.specs.Tables.{fold}
 use Rattle.base.proofs.Bools.{and-left, by-test, pick-yes, pick-no}
 use Rattle.rules.specs.Floats.{zero64, plus, over, isNumber}
 use Rattle.rules.specs.Probabilities.{larger, largestOf, plusShare, totalOf, usable}
-use Rattle.floats.proofs.Numbers.{upward, round-upward, zero-upward, over-fin}
+use Rattle.rules.proofs.Floats.{upward, round-upward, zero-upward, over-fin}
 
 -- ---- between whole numbers
 

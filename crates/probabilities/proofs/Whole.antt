@@ -14,9 +14,9 @@ use Rattle.rules.specs.Probabilities.{Block, clippedTo, regionOf, changedBy, mu
 use Rattle.rules.specs.declared.World.{World}
 use Rattle.rules.specs.declared.Offset.{Offset}
 use Rattle.rules.specs.declared.Span.{Span}
-use Rattle.checks.proofs.Sides.{board-cols}
+use Rattle.check_sizes.proofs.Sides.{board-cols}
 use Rattle.places.proofs.Indices.{Placed, spanRound, row-span, col-span}
-use Rattle.influence.specs.Step.{regionIn, changedAt, coloursChanged}
+use Rattle.probability_influence.specs.Step.{regionIn, changedAt, coloursChanged}
 use Rattle.probabilities.specs.Calls.{stepped}
 
 -- the whole step, over the clipped region

@@ -1,15 +1,15 @@
 // Document 01, "Probabilities": the three calls, their checks first. All probabilities stand in one plane, colour by colour, each row by
 // row.
 ghost use Rattle.rules.specs.Promises.{before, after, Normalises, Multiplies, Divides};
-ghost use Rattle.influence.specs.Step.{blockOf};
+ghost use Rattle.probability_influence.specs.Step.{blockOf};
 ghost use Rattle.probabilities.specs.Calls.{Changes};
 use probability_checks::normalise_refused;
 use probability_checks::step_refused;
+use probability_normal::take_place;
 use rules::Offset;
 use rules::SpanAnswer;
 use rules::World;
 use rules::Written;
-use taking::take_place;
 
 // Each colour's probability at a place, normalised, into out.
 pub fn get_tile_probabilities_at_position(
@@ -28,7 +28,7 @@ pub fn get_tile_probabilities_at_position(
         return Written::Refused(refused);
     }
     take_place(probabilities, rows, cols, count, position, offset, out);
-    normal::normalise(out, count);
+    probability_normal::normalise(out, count);
     Written::Done
 }
 
@@ -64,12 +64,13 @@ fn change_probabilities(
         return Written::Refused(refused);
     }
     // A place that was not refused has spans.
-    let SpanAnswer::Spans(down, across) = spans::get_region_spans(offset, position, radius) else {
+    let SpanAnswer::Spans(down, across) = place_spans::get_region_spans(offset, position, radius)
+    else {
         return Written::Refused(rules::PLACE);
     };
-    let rowspan = influence::clipped(rows, down);
-    let colspan = influence::clipped(cols, across);
-    influence::change_colours(
+    let rowspan = probability_influence::clipped(rows, down);
+    let colspan = probability_influence::clipped(cols, across);
+    probability_influence::change_colours(
         reverse,
         probabilities,
         rows * cols,

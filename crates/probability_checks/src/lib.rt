@@ -6,7 +6,7 @@ ghost use Rattle.base.specs.Refusal.{refusal};
 ghost use Rattle.rules.specs.Bounds.{maxInfluenceSide};
 ghost use Rattle.rules.specs.Promises.{before};
 ghost use Rattle.rules.specs.Probabilities.{normaliseChecks, influenceSizes, influenceChecks};
-ghost use Rattle.influence.specs.Step.{blockOf};
+ghost use Rattle.probability_influence.specs.Step.{blockOf};
 use rules::Offset;
 use rules::World;
 
@@ -22,19 +22,19 @@ pub fn normalise_refused(
 ) -> u8
     ensures { λ r. ⌜ r ≡ refusal (normaliseChecks (before plane) rows cols count position offset (before out)) ⌝ }
 {
-    if !checks::board_sides(rows, cols) {
+    if !check_sizes::board_sides(rows, cols) {
         return rules::SHAPE;
     }
-    if !checks::floats_have_length(plane, count as usize * (rows * cols)) {
+    if !check_sizes::floats_have_length(plane, count as usize * (rows * cols)) {
         return rules::LENGTH;
     }
-    if !checks::floats_have_length(out, count as usize) {
+    if !check_sizes::floats_have_length(out, count as usize) {
         return rules::LENGTH;
     }
-    if !checks::colour_count(count) {
+    if !check_sizes::colour_count(count) {
         return rules::COUNT;
     }
-    if !contents::all_numbers(plane) {
+    if !check_contents::all_numbers(plane) {
         return rules::NUMBER;
     }
     if !places::on_wall(position) {
@@ -78,7 +78,7 @@ fn sizes_refused(
 ) -> u8
     ensures { λ r. ⌜ r ≡ refusal (influenceSizes (before plane) rows cols count (blockOf brows bcols (before block)) radius) ⌝ }
 {
-    if !checks::board_sides(rows, cols) {
+    if !check_sizes::board_sides(rows, cols) {
         return rules::SHAPE;
     }
     if !influence_sides(brows, bcols) {
@@ -87,13 +87,13 @@ fn sizes_refused(
     if radius > rules::MAX_RADIUS {
         return rules::SHAPE;
     }
-    if !checks::floats_have_length(plane, count as usize * (rows * cols)) {
+    if !check_sizes::floats_have_length(plane, count as usize * (rows * cols)) {
         return rules::LENGTH;
     }
-    if !checks::floats_have_length(block, count as usize * (brows * bcols)) {
+    if !check_sizes::floats_have_length(block, count as usize * (brows * bcols)) {
         return rules::LENGTH;
     }
-    if !checks::colour_count(count) {
+    if !check_sizes::colour_count(count) {
         return rules::COUNT;
     }
     0
@@ -118,10 +118,10 @@ pub fn step_refused(
     if refused != 0 {
         return refused;
     }
-    if !contents::all_finite(plane) {
+    if !check_contents::all_finite(plane) {
         return rules::NUMBER;
     }
-    if !contents::all_finite(block) {
+    if !check_contents::all_finite(block) {
         return rules::NUMBER;
     }
     places::place_refused(rows, cols, position, offset)

@@ -18,7 +18,7 @@ use Rattle.rules.specs.declared.Grown.{Grown}
 use Rattle.rules.specs.declared.Taken.{Taken}
 use Rattle.rules.specs.declared.Written.the-variants as Written·
 use Rattle.rules.specs.declared.Next.the-variants as Next·
-use Rattle.entries.specs.Unchecked.{Adding, grownTo, nextOut}
+use Rattle.queue_entries.specs.Unchecked.{Adding, grownTo, nextOut}
 
 -- taking
 module _ (q : ForcedPipeline) where

@@ -8,7 +8,7 @@ use lib.ListN.{length, getD, take, drop}
 use Rattle.rules.specs.Tests.{onWall}
 use Rattle.rules.specs.Forced.{allOnWall, noPosition}
 use Rattle.rules.specs.declared.ForcedPosition.{ForcedPosition}
-use Rattle.entries.proofs.Places.{still, none-left}
+use Rattle.queue_entries.proofs.Places.{still, none-left}
 
 -- the entries passed, of which `fine` tells, and those from i on are on the wall exactly if all are
 abbrev pub Walled : List ForcedPosition → ℕ → Bool → ℕ → Type 0

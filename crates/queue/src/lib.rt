@@ -20,7 +20,7 @@ mod refusals;
 pub fn new() -> ForcedPipeline
     ensures { λ r. ⌜ r ≡ queueOf [] ⌝ }
 {
-    entries::new()
+    queue_entries::new()
 }
 
 // Each of the positions goes to the back, unless its place is queued already.
@@ -32,7 +32,7 @@ pub fn add_positions(queue: ForcedPipeline, positions: ForcedPositions) -> Grown
         let answer = Written::Refused(refused);
         return Grown { answer, queue };
     }
-    entries::add_positions(queue, positions)
+    queue_entries::add_positions(queue, positions)
 }
 
 // The position that is next out, and the queue without it.
@@ -44,7 +44,7 @@ pub fn take_next(queue: ForcedPipeline) -> Taken
         let next = Next::Refused(refused);
         return Taken { next, queue };
     }
-    entries::take_next(queue)
+    queue_entries::take_next(queue)
 }
 
 pub fn is_empty(queue: ForcedPipeline) -> Verdict

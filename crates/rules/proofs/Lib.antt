@@ -3,3 +3,4 @@ pub mod Answered
 pub mod Lowest
 pub mod Shares
 pub mod Fitting
+pub mod Floats

@@ -1,10 +1,10 @@
 -- Floats as the rules write them. Every operation is one rounded operation of binary64; a literal is given by its bits.
 use Prim.Native.Nat.{ℕ}
-use mathlib.Core.Bool.{Bool, _&&_}
+use mathlib.Core.Bool.{Bool, not, _&&_}
 use mathlib.Core.List.{List}
 use lib.ListN.{length, getD}
 use lib.IntN.{pos}
-use lib.Ieee.{Float, nan, binary64, ofBits, ofInt, lt, le, add, mul, div}
+use lib.Ieee.{Float, nan, binary64, ofBits, ofInt, isNan, lt, le, add, mul, div}
 use Rattle.base.specs.Counting.{every}
 
 abbrev pub zero64 : Float
@@ -35,6 +35,10 @@ isNumber x = le zero64 x
 
 abbrev pub isFinite : Float → Bool
 isFinite x = le zero64 x && lt x inf64
+
+-- not a NaN; an infinity passes
+abbrev pub noNan : Float → Bool
+noNan x = not (isNan x)
 
 unfoldable pub allAre : (Float → Bool) → List Float → Bool
 allAre test plane = every (length plane) (λ k. test (getD plane k nan))

@@ -9,7 +9,7 @@ use lib.Ieee.{Float}
 use borrow.Author.Tests.{leb-true}
 use Rattle.base.specs.Refusal.{refusal}
 use Rattle.base.proofs.Chain.{Passes, all-pass}
-use Rattle.checks.proofs.Sides.{long}
+use Rattle.check_sizes.proofs.Sides.{long}
 use Rattle.rules.specs.Tests.{boardSides, tileNumber, noneAbove}
 use Rattle.rules.specs.Floats.{isFinite, allAre}
 use Rattle.rules.specs.Scores.{scoreChecks, layScoreChecks, liftScoreChecks}

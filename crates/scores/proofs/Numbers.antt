@@ -13,9 +13,9 @@ use lib.Ieee.{Float, nan}
 use Rattle.base.specs.Tables.{fold}
 use Rattle.base.proofs.Bools.{by-test}
 use Rattle.base.proofs.Numbers.{row-lt, col-lt, mul-le}
-use Rattle.checks.proofs.Sides.{board-cols, tiles-least, tiles-most}
+use Rattle.check_sizes.proofs.Sides.{board-cols, tiles-least, tiles-most}
 use Rattle.rules.specs.Tests.{boardSides, tileNumber}
-use Rattle.rules.specs.Floats.{zero64, floatOf, isFinite, allAre}
+use Rattle.rules.specs.Floats.{zero64, floatOf, isFinite, noNan, allAre}
 use Rattle.rules.specs.Scores.{fraction, squaredFraction, plusTerm, meanOf, boxCells, scored, layFalls, liftFalls, layScores, liftScores, layScoreChecks, liftScoreChecks}
 use Rattle.rules.specs.Promises.{ScoresLay, ScoresLift}
 use Rattle.rules.proofs.Answered.{was-written}
@@ -23,9 +23,8 @@ use Rattle.rules.specs.declared.World.{World}
 use Rattle.rules.specs.declared.Offset.{Offset}
 use Rattle.rules.specs.declared.Span.{Span}
 use Rattle.rules.specs.declared.Written.the-variants.{Done}
-use Rattle.floats.specs.Numbers.{noNan}
-use Rattle.floats.proofs.Numbers.{upward, upward-number, finite-number, plus-upward, square-upward, over-upward, count-upward, count-positive, is-finite, all-at, all-tab, zero-upward}
-use Rattle.means.proofs.Box.{box-is, box-length}
+use Rattle.rules.proofs.Floats.{upward, upward-number, finite-number, plus-upward, square-upward, over-upward, count-upward, count-positive, is-finite, all-at, all-tab, zero-upward}
+use Rattle.score_mean.proofs.Box.{box-is, box-length}
 use Rattle.scores.proofs.Accept.{lay-passes, lift-passes}
 
 pub fraction-upward : (counts : List ℕ) (tiles k : ℕ) → tileNumber tiles ≡ true → T (upward (fraction counts tiles k))

@@ -19,11 +19,11 @@ use Rattle.rules.specs.Scores.{inSpan, liftFalls, layFalls, pastTarget, scored,
 use Rattle.rules.specs.declared.World.{World}
 use Rattle.rules.specs.declared.Offset.{Offset}
 use Rattle.rules.specs.declared.Span.{Span}
-use Rattle.checks.proofs.Sides.{board-cols}
+use Rattle.check_sizes.proofs.Sides.{board-cols}
 use Rattle.places.proofs.Indices.{spanRound, row-span, col-span}
-use Rattle.means.specs.Box.{termOf, scoreAt}
-use Rattle.means.proofs.Box.{box-is}
-use Rattle.scoring.specs.Region.{regionScored, pastTargets, ScoresFit}
+use Rattle.score_mean.specs.Box.{termOf, scoreAt}
+use Rattle.score_mean.proofs.Box.{box-is}
+use Rattle.score_regions.specs.Region.{regionScored, pastTargets, ScoresFit}
 use Rattle.scores.specs.Ordered.{orderedSpan}
 use Rattle.scores.proofs.Accept.{PlanesPass}
 

@@ -12,8 +12,8 @@ use rules::Span;
 use rules::SpanAnswer;
 use rules::World;
 use rules::Written;
-use scoring::past_targets;
-use scoring::score_region;
+use score_regions::past_targets;
+use score_regions::score_region;
 
 // How far the lay of a piece reaches; the text's name.
 const ADJACENCY_LEVELS: usize = 2;
@@ -22,7 +22,7 @@ const ADJACENCY_LEVELS: usize = 2;
 fn ordered(span: Span) -> Span
     ensures { λ r. ⌜ r ≡ orderedSpan span ⌝ }
 {
-    Span(floats::least(span.0, span.1), span.1)
+    Span(places::least(span.0, span.1), span.1)
 }
 
 // The refusal of the planes and the number of tiles of a score call, 0 where there is none.
@@ -30,19 +30,19 @@ fn planes_refused(scores: &[f64], counts: &[u32], rows: usize, cols: usize, tile
     requires { ⌜ boardSides rows cols ≡ true ⌝ }
     ensures { λ r. ⌜ r ≡ refusal (scoreChecks (before scores) (before counts) rows cols tiles) ⌝ }
 {
-    if !checks::floats_have_length(scores, rows * cols) {
+    if !check_sizes::floats_have_length(scores, rows * cols) {
         return rules::LENGTH;
     }
-    if !checks::words_have_length(counts, rows * cols) {
+    if !check_sizes::words_have_length(counts, rows * cols) {
         return rules::LENGTH;
     }
-    if !checks::tile_number_fits(tiles) {
+    if !check_sizes::tile_number_fits(tiles) {
         return rules::LENGTH;
     }
-    if !contents::no_word_above(counts, tiles as u32) {
+    if !check_contents::no_word_above(counts, tiles as u32) {
         return rules::CELL;
     }
-    if !contents::all_finite(scores) {
+    if !check_contents::all_finite(scores) {
         return rules::NUMBER;
     }
     0
@@ -59,7 +59,7 @@ fn lay_refused(
 ) -> u8
     ensures { λ r. ⌜ r ≡ refusal (layScoreChecks (before scores) (before counts) rows cols tiles position offset) ⌝ }
 {
-    if !checks::board_sides(rows, cols) {
+    if !check_sizes::board_sides(rows, cols) {
         return rules::SHAPE;
     }
     let refused = planes_refused(scores, counts, rows, cols, tiles);
@@ -80,7 +80,7 @@ fn lift_refused(
 ) -> u8
     ensures { λ r. ⌜ r ≡ refusal (liftScoreChecks (before scores) (before counts) rows cols tiles rowspan colspan) ⌝ }
 {
-    if !checks::board_sides(rows, cols) {
+    if !check_sizes::board_sides(rows, cols) {
         return rules::SHAPE;
     }
     if rowspan.1 > rows {
@@ -109,7 +109,7 @@ pub fn update_feasibility(
         return Written::Refused(refused);
     }
     // A place that was not refused has spans.
-    let SpanAnswer::Spans(down, across) = spans::get_region_spans(
+    let SpanAnswer::Spans(down, across) = place_spans::get_region_spans(
         offset,
         position,
         ADJACENCY_LEVELS,

@@ -16,8 +16,8 @@ use Rattle.rules.specs.Promises.{Extracts}
 use Rattle.rules.specs.declared.TileNumber.{TileNumber}
 use Rattle.rules.specs.declared.TileNumber.the-variants.{Refused}
 use Rattle.rules.proofs.Answered.{tiles-refused}
-use Rattle.checks.proofs.Sides.{long}
-use Rattle.forms.specs.Sample.{Sample}
+use Rattle.check_sizes.proofs.Sides.{long}
+use Rattle.tile_forms.specs.Sample.{Sample}
 use Rattle.tiles.specs.Adding.{Gathers}
 
 pub sides-few : (rows cols : ℕ) → sampleSides rows cols ≡ true → (rows ≤ maxSampleSide) × (cols ≤ maxSampleSide)

@@ -1,4 +1,5 @@
 pub mod Store
 pub mod Answers
+pub mod Cells
 pub mod Meaning
 pub mod Coincide

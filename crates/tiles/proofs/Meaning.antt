@@ -20,7 +20,7 @@ use Rattle.base.proofs.Counted.{every-at, every-is, some-is, some-at}
 use Rattle.base.proofs.Tabled.{getD-tab, is-tab, tab-ext}
 use Rattle.rules.specs.Tests.{tilesIn}
 use Rattle.rules.specs.Tiles.{variant, variants, sameTile, hasTile, withTile, distinct, extracted}
-use Rattle.forms.proofs.Variants.{variant-length}
+use Rattle.tile_forms.proofs.Variants.{variant-length}
 use Rattle.tiles.proofs.Store.{with-length, distinct-more, distinct-grows}
 
 -- tile n of a list

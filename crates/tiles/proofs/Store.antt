@@ -22,8 +22,8 @@ use Rattle.rules.specs.Bounds.{maxTiles, ROOM}
 use Rattle.rules.specs.Tests.{tilesIn}
 use Rattle.rules.specs.Answers.{tileAnswer}
 use Rattle.rules.specs.Tiles.{hasTile, withTile, distinct, storeWith, roomCheck}
-use Rattle.seen.specs.Chains.{buckets, bucketOf, Chained, Notes}
-use Rattle.seen.proofs.Buckets.{chained-none, chained-more}
+use Rattle.tile_seen.specs.Chains.{buckets, bucketOf, Chained, Notes}
+use Rattle.tile_seen.proofs.Buckets.{chained-none, chained-more}
 use Rattle.tiles.specs.Adding.{Adds, Gathers}
 use Rattle.rules.specs.declared.TileNumber.the-variants.{Tiles, Refused}
 

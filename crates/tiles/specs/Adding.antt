@@ -9,7 +9,7 @@ use Rattle.rules.specs.Tests.{tilesIn}
 use Rattle.rules.specs.Answers.{tileAnswer}
 use Rattle.rules.specs.Tiles.{withTile, storeWith, roomCheck}
 use Rattle.rules.specs.declared.TileNumber.{TileNumber}
-use Rattle.seen.specs.Chains.{Chained}
+use Rattle.tile_seen.specs.Chains.{Chained}
 
 -- one tile more to the n tiles of a store: how many there are then to be kept, the store with those that fit, and, where they fit, the
 -- chains over them

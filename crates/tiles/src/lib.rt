@@ -1,4 +1,5 @@
-// The text's spatial/tiles.rs: every distinct 3x3 tile of a sample, in order of first appearance, into a store that the caller lends.
+// The text's spatial/tiles.rs: every distinct 3x3 tile of a sample, in order of first appearance, into a store that the caller lends; and
+// the set of a tile's colours.
 ghost use mathlib.Core.Path.{_≡_};
 ghost use Prim.Native.Nat.{_+_, _*_, _<_, _≤_};
 ghost use lib.ListN.{length, take};
@@ -8,10 +9,14 @@ ghost use Rattle.rules.specs.Bounds.{maxTiles};
 ghost use Rattle.rules.specs.Promises.{before, after, Extracts};
 ghost use Rattle.rules.specs.Tests.{tilesIn};
 ghost use Rattle.rules.specs.Tiles.{extracted, sampleChecks};
-ghost use Rattle.forms.specs.Sample.{Sample};
-ghost use Rattle.seen.specs.Chains.{Chained};
+ghost use Rattle.tile_forms.specs.Sample.{Sample};
+ghost use Rattle.tile_seen.specs.Chains.{Chained};
 ghost use Rattle.tiles.specs.Adding.{Adds, Gathers};
 use rules::TileNumber;
+
+mod membership;
+
+pub use membership::convert_tile_to_membership_booleans;
 
 fn put_tile(store: &mut [u8], at: usize, tile: &[u8; rules::TILE_CELLS])
     requires { ⌜ (at + 9 ≤ length (now store)) × (length (now tile) ≡ 9) ⌝ }
@@ -28,7 +33,7 @@ fn put_tile(store: &mut [u8], at: usize, tile: &[u8; rules::TILE_CELLS])
 // kept: one more than fit, where there is no room.
 fn add_tile(
     store: &mut [u8],
-    heads: &mut [u16; seen::BUCKETS],
+    heads: &mut [u16; tile_seen::BUCKETS],
     nexts: &mut [u16; rules::MAX_TILES],
     n: usize,
     tile: &[u8; rules::TILE_CELLS],
@@ -37,15 +42,15 @@ fn add_tile(
     ensures { λ r. ⌜ Adds (before store) n (before tile) r (after store) (after heads) (after nexts) ⌝ }
 {
     let at = n * rules::TILE_CELLS;
-    let bucket = seen::bucket_of(tile);
-    if seen::has_tile(&store[..at], heads, nexts, tile, bucket) {
+    let bucket = tile_seen::bucket_of(tile);
+    if tile_seen::has_tile(&store[..at], heads, nexts, tile, bucket) {
         return n;
     }
     if store.len() - at < rules::TILE_CELLS {
         return n + 1;
     }
     put_tile(store, at, tile);
-    seen::note_tile(heads, nexts, n, bucket);
+    tile_seen::note_tile(heads, nexts, n, bucket);
     n + 1
 }
 
@@ -62,14 +67,14 @@ fn gather(
     requires { ⌜ Sample (now source) rows cols ⌝ }
     ensures { λ a. ⌜ Gathers (extracted (before source) rows cols rotations reflections) (before store) a (after store) ⌝ }
 {
-    let total = forms::variants_of(rows, cols, rotations, reflections);
+    let total = tile_forms::variants_of(rows, cols, rotations, reflections);
     let room = store.len() / rules::TILE_CELLS;
-    let mut heads = [0u16; seen::BUCKETS];
+    let mut heads = [0u16; tile_seen::BUCKETS];
     let mut nexts = [0u16; rules::MAX_TILES];
     let mut n = 0;
     let mut left = total;
     while 0 < left {
-        let tile = forms::variant_of(source, rows, cols, rotations, reflections, total - left);
+        let tile = tile_forms::variant_of(source, rows, cols, rotations, reflections, total - left);
         let kept = add_tile(store, &mut heads, &mut nexts, n, &tile);
         if room < kept {
             return TileNumber::Refused(rules::ROOM);
@@ -83,16 +88,16 @@ fn gather(
 fn sample_refusal(source: &[u8], rows: usize, cols: usize, count: u32) -> u8
     ensures { λ r. ⌜ r ≡ refusal (sampleChecks (before source) rows cols count) ⌝ }
 {
-    if !checks::sample_sides(rows, cols) {
+    if !check_sizes::sample_sides(rows, cols) {
         return rules::SHAPE;
     }
-    if !checks::bytes_have_length(source, rows * cols) {
+    if !check_sizes::bytes_have_length(source, rows * cols) {
         return rules::LENGTH;
     }
-    if !checks::colour_count(count) {
+    if !check_sizes::colour_count(count) {
         return rules::COUNT;
     }
-    if !contents::no_byte_above(source, count) {
+    if !check_contents::no_byte_above(source, count) {
         return rules::CELL;
     }
     0

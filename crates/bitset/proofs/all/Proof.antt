@@ -3,8 +3,8 @@ use Rattle.base.proofs.Bools.{passes}
 use Rattle.base.proofs.Chain.{chain}
 use Rattle.rules.specs.Sets.{fullSet}
 use Rattle.rules.proofs.Answered.{answers}
-use Rattle.sets.proofs.Calls.{of-bits}
-use Rattle.checks.proofs.Sides.{count-most}
+use Rattle.bitset_colours.proofs.Calls.{of-bits}
+use Rattle.check_sizes.proofs.Sides.{count-most}
 use borrow.Author.Needs.{needs}
 use Rattle.bitset.proofs.all.Statement.{statement}
 use Rattle.bitset.proofs.all.Tie as tie

@@ -4,7 +4,7 @@ use native.Mathlib.Omega.{arith}
 use Rattle.base.proofs.Chain.{chain}
 use Rattle.rules.specs.Sets.{contained}
 use Rattle.rules.proofs.Answered.{answers}
-use Rattle.sets.proofs.Digits.{has-past}
+use Rattle.bitset_colours.proofs.Digits.{has-past}
 use Rattle.bitset.proofs.Calls.{few, marked}
 use borrow.Author.Needs.{needs}
 use Rattle.bitset.proofs.contains.Statement.{statement}

@@ -3,8 +3,8 @@ use native.Mathlib.Omega.{arith}
 use Rattle.base.proofs.Chain.{chain}
 use Rattle.rules.specs.Sets.{inserted}
 use Rattle.rules.proofs.Answered.{answers}
-use Rattle.sets.proofs.Words.{past-is}
-use Rattle.sets.proofs.Calls.{of-bits}
+use Rattle.bitset_colours.proofs.Words.{past-is}
+use Rattle.bitset_colours.proofs.Calls.{of-bits}
 use Rattle.bitset.proofs.Calls.{few, marked}
 use borrow.Author.Needs.{needs}
 use Rattle.bitset.proofs.insert.Statement.{statement}

@@ -2,7 +2,7 @@
 use Rattle.base.proofs.Chain.{chain}
 use Rattle.rules.specs.Sets.{intersected}
 use Rattle.rules.proofs.Answered.{answers}
-use Rattle.sets.proofs.Calls.{of-bits}
+use Rattle.bitset_colours.proofs.Calls.{of-bits}
 use Rattle.bitset.proofs.Calls.{first-marked}
 use borrow.Author.Needs.{needs}
 use Rattle.bitset.proofs.intersection.Statement.{statement}

@@ -3,8 +3,8 @@ use mathlib.Core.Path.{ap}
 use native.Mathlib.Omega.{arith}
 use lib.Dec.{ltb}
 use Rattle.rules.specs.Sets.{marksWithin}
-use Rattle.sets.proofs.Words.{shl-one}
-use Rattle.checks.proofs.Sides.{count-most}
+use Rattle.bitset_colours.proofs.Words.{shl-one}
+use Rattle.check_sizes.proofs.Sides.{count-most}
 use Rattle.bitset.proofs.marks_within.Statement.{statement}
 use Rattle.bitset.proofs.marks_within.Tie as tie
 

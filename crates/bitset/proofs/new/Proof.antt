@@ -3,8 +3,8 @@ use mathlib.Core.Path.{sym, _∙_}
 use Rattle.base.proofs.Chain.{chain}
 use Rattle.rules.specs.Sets.{emptySet}
 use Rattle.rules.proofs.Answered.{answers}
-use Rattle.sets.proofs.Digits.{none-is}
-use Rattle.sets.proofs.Calls.{of-bits}
+use Rattle.bitset_colours.proofs.Digits.{none-is}
+use Rattle.bitset_colours.proofs.Calls.{of-bits}
 use borrow.Author.Needs.{needs}
 use Rattle.bitset.proofs.new.Statement.{statement}
 use Rattle.bitset.proofs.new.Tie as tie

@@ -7,10 +7,10 @@ use Rattle.rules.specs.Board.{lifted, boardChecks, liftingChecks, afterLift}
 use Rattle.rules.specs.Promises.{board, panel}
 use Rattle.rules.specs.declared.Cell.{Cell}
 use Rattle.rules.proofs.Answered.{answers, lift-refused, lift-done}
-use Rattle.checks.proofs.Lengths.{lengths}
-use Rattle.checks.proofs.Tiled.{few-tiles}
-use Rattle.nearness.proofs.Placing.{place-stops, place-passes}
-use Rattle.nearness.proofs.Leaning.{in-plane}
+use Rattle.check_sizes.proofs.Lengths.{lengths}
+use Rattle.check_sizes.proofs.Tiled.{few-tiles}
+use Rattle.board_near.proofs.Placing.{place-stops, place-passes}
+use Rattle.board_near.proofs.Leaning.{in-plane}
 use Rattle.board.proofs.Leaning.{contents-by, standing}
 use borrow.Author.Needs.{needs}
 use Rattle.board.proofs.lift.Statement.{statement}

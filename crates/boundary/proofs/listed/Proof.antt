@@ -1,5 +1,5 @@
 -- `boundary::listed` meets its contract: each case of the answer gives its number and its values. Assumes nothing.
-use Rattle.slots.proofs.Storing.{then-set}
+use Rattle.boundary_slots.proofs.Storing.{then-set}
 use Rattle.boundary.proofs.Back.{stored}
 use Rattle.boundary.specs.Boundary.{listingNumber, listingLeft}
 use mathlib.Core.Path.{refl}

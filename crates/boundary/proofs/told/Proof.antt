@@ -1,5 +1,5 @@
 -- `boundary::told` meets its contract: each case of the answer gives its number and its values. Assumes nothing.
-use Rattle.slots.proofs.Storing.{puts}
+use Rattle.boundary_slots.proofs.Storing.{puts}
 use Rattle.boundary.proofs.Back.{stored}
 use Rattle.boundary.specs.Boundary.{verdictNumber, verdictLeft}
 use mathlib.Core.Path.{refl}

@@ -3,7 +3,7 @@
 use borrow.Author.Needs.{needs}
 use Prim.Native.Nat.{_≤_}
 use native.Mathlib.Omega.{arith}
-use Rattle.checks.proofs.Sides.{board-rows, board-cols}
+use Rattle.check_sizes.proofs.Sides.{board-rows, board-cols}
 use Rattle.rules.specs.Places.{newRows, newCols}
 use Rattle.copy_checks.proofs.larger_cells.Statement.{statement}
 use Rattle.copy_checks.proofs.larger_cells.Tie as tie

@@ -1,5 +1,5 @@
 -- `desk::desk_fitting_colours` meets its contract: the answer by its definition, passed on. Assumes nothing.
-use Rattle.slots.proofs.Storing.{world-is, offset-is}
+use Rattle.boundary_slots.proofs.Storing.{world-is, offset-is}
 use Rattle.boundary.proofs.Back.{passed-on}
 use Rattle.boundary.specs.Boundary.{listingNumber}
 use Rattle.desk.specs.Desk.{coloursLeft}

@@ -4,7 +4,7 @@ use mathlib.Core.Path.{refl, sym, _∙_}
 use Rattle.base.proofs.Chain.{chain}
 use Rattle.rules.specs.Fit.{listing}
 use Rattle.rules.proofs.Answered.{answers, listing-told}
-use Rattle.windows.proofs.Accepted.{accepted-ready}
+use Rattle.fit_windows.proofs.Accepted.{accepted-ready}
 use Rattle.fit.proofs.Accepted.{place-on}
 use borrow.Author.Needs.{needs}
 use Rattle.fit.proofs.compute_viable_tiles_at_position.Statement.{statement}

@@ -4,7 +4,7 @@ use Rattle.base.proofs.Bools.{passes}
 use Rattle.base.proofs.Chain.{chain}
 use Rattle.rules.specs.Fit.{regionCount}
 use Rattle.rules.proofs.Answered.{answers}
-use Rattle.windows.proofs.Accepted.{accepted-ready}
+use Rattle.fit_windows.proofs.Accepted.{accepted-ready}
 use Rattle.fit.proofs.Accepted.{grid-on}
 use borrow.Author.Needs.{needs}
 use Rattle.fit.proofs.count_fitting.Statement.{statement}

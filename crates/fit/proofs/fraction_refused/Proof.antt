@@ -2,8 +2,8 @@
 use native.Mathlib.Omega.{arith}
 use Rattle.base.proofs.Bools.{passes}
 use Rattle.base.proofs.Chain.{chain}
-use Rattle.checks.proofs.Sides.{tiles-most}
-use Rattle.checks.proofs.Lengths.{length-as}
+use Rattle.check_sizes.proofs.Sides.{tiles-most}
+use Rattle.check_sizes.proofs.Lengths.{length-as}
 use borrow.Author.Needs.{needs}
 use Rattle.fit.proofs.fraction_refused.Statement.{statement}
 use Rattle.fit.proofs.fraction_refused.Tie as tie

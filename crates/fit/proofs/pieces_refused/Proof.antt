@@ -1,7 +1,7 @@
 -- `fit::pieces_refused` meets its contract: three checks, then those of the colours. Assumes nothing.
 use Rattle.base.proofs.Bools.{passes}
 use Rattle.base.proofs.Chain.{chain}
-use Rattle.checks.proofs.Lengths.{length-as}
+use Rattle.check_sizes.proofs.Lengths.{length-as}
 use borrow.Author.Needs.{needs}
 use Rattle.fit.proofs.pieces_refused.Statement.{statement}
 use Rattle.fit.proofs.pieces_refused.Tie as tie

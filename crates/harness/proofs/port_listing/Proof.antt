@@ -1,5 +1,5 @@
 -- `harness::port_listing` meets its contract: the answer by its definition, passed on. Assumes nothing.
-use Rattle.slots.proofs.Storing.{world-is, offset-is}
+use Rattle.boundary_slots.proofs.Storing.{world-is, offset-is}
 use Rattle.boundary.proofs.Back.{passed-on}
 use Rattle.boundary.specs.Boundary.{listingNumber, listingLeft}
 use mathlib.Core.Path.{_∙_, ap₂}

@@ -1,12 +1,12 @@
 -- `harness_floats::port_product` meets its contract: the answer by its definition, passed on. Assumes nothing.
-use Rattle.slots.proofs.Storing.{world-is, offset-is}
+use Rattle.boundary_slots.proofs.Storing.{world-is, offset-is}
 use Rattle.boundary.proofs.Back.{numbered-at}
 use Rattle.boundary.specs.Boundary.{writtenNumber}
 use mathlib.Core.Path.{_∙_}
 use Rattle.rules.specs.declared.World.{World}
 use Rattle.rules.specs.declared.Offset.{Offset}
 use Rattle.rules.specs.Promises.{Multiplies}
-use Rattle.influence.specs.Step.{blockOf}
+use Rattle.probability_influence.specs.Step.{blockOf}
 use borrow.Author.Needs.{needs}
 use Rattle.harness_floats.proofs.port_product.Statement.{statement}
 use Rattle.harness_floats.proofs.port_product.Tie as tie

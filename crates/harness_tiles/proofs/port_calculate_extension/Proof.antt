@@ -1,6 +1,6 @@
 -- `harness_tiles::port_calculate_extension` meets its contract: the answer by its definition, passed on. Assumes nothing.
 use mathlib.Core.Path.{_∙_, ap₂}
-use Rattle.slots.proofs.Storing.{world-is, offset-is}
+use Rattle.boundary_slots.proofs.Storing.{world-is, offset-is}
 use Rattle.boundary.proofs.Back.{passed-on}
 use Rattle.rules.specs.declared.World.{World}
 use Rattle.rules.specs.declared.Offset.{Offset}

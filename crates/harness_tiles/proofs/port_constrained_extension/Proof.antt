@@ -1,13 +1,13 @@
 -- `harness_tiles::port_constrained_extension` meets its contract: the answer by its definition, passed on. Assumes nothing.
 use mathlib.Core.Path.{_∙_, ap, ap₂}
-use Rattle.slots.proofs.Storing.{world-is, offset-is}
+use Rattle.boundary_slots.proofs.Storing.{world-is, offset-is}
 use Rattle.boundary.proofs.Back.{passed-on}
 use Rattle.rules.specs.declared.World.{World}
 use Rattle.rules.specs.declared.Offset.{Offset}
 use Rattle.harness_tiles.specs.Lent.{extensionNumber, extensionLeft}
 use Rattle.rules.specs.Places.{boxedExtension}
 use Rattle.rules.specs.declared.BoundingBox.{BoundingBox}
-use Rattle.slots.specs.Slots.{world, offsetBy}
+use Rattle.boundary_slots.specs.Slots.{world, offsetBy}
 use Rattle.harness_tiles.proofs.Stored.{box-is}
 use borrow.Author.Needs.{needs}
 use Rattle.harness_tiles.proofs.port_constrained_extension.Statement.{statement}

@@ -1,6 +1,6 @@
 -- `harness_tiles::port_contains` meets its contract: the answer by its definition, passed on. Assumes nothing.
 use mathlib.Core.Path.{_∙_, ap₂}
-use Rattle.slots.proofs.Storing.{world-is}
+use Rattle.boundary_slots.proofs.Storing.{world-is}
 use Rattle.boundary.proofs.Back.{passed-on}
 use Rattle.boundary.specs.Boundary.{verdictNumber, verdictLeft}
 use Rattle.rules.specs.Places.{boxContains}

@@ -3,13 +3,13 @@ use mathlib.Core.Path.{_≡_, sym, ap, _∙_}
 use Prim.Native.Nat.{_*_}
 use native.Mathlib.Omega.{arith}
 use Rattle.rules.specs.Probabilities.{Region, clippedTo}
-use Rattle.checks.proofs.Sides.{few-cells}
+use Rattle.check_sizes.proofs.Sides.{few-cells}
 use Rattle.places.proofs.Indices.{spanRound}
 use Rattle.rules.specs.Places.{cellOf}
 use Rattle.base.proofs.Chain.{chain, part-passed}
 use Rattle.rules.proofs.Answered.{answers, done}
-use Rattle.spans.proofs.Spanned.{never-refused, rows-round, cols-round}
-use Rattle.influence.specs.Step.{blockOf, coloursChanged}
+use Rattle.place_spans.proofs.Spanned.{never-refused, rows-round, cols-round}
+use Rattle.probability_influence.specs.Step.{blockOf, coloursChanged}
 use Rattle.probabilities.proofs.Accept.{StepPasses, step-passes}
 use Rattle.probabilities.proofs.Whole.{whole-step, region-is, region-fits}
 use borrow.Author.Needs.{needs}

@@ -1,7 +1,7 @@
 -- `probability_checks::normalise_refused` meets its contract: each exit answers the first check that fails. Assumes nothing.
 use Prim.Native.Nat.{_*_, _^_, _≤_}
 use Rattle.base.proofs.Chain.{chain}
-use Rattle.checks.proofs.Sides.{few-cells}
+use Rattle.check_sizes.proofs.Sides.{few-cells}
 use Rattle.base.proofs.Numbers.{mul-le}
 use native.Mathlib.Omega.{arith}
 use Rattle.base.proofs.Bools.{passes}

@@ -2,7 +2,7 @@
 use Prim.Native.Nat.{_*_, _^_, _≤_}
 use mathlib.Core.Bool.{_&&_}
 use Rattle.base.proofs.Chain.{chain}
-use Rattle.checks.proofs.Sides.{few-cells}
+use Rattle.check_sizes.proofs.Sides.{few-cells}
 use Rattle.base.proofs.Numbers.{mul-le, within-high}
 use native.Mathlib.Omega.{arith}
 use Rattle.base.specs.Counting.{within}

@@ -2,7 +2,7 @@
 use native.Mathlib.Omega.{arith}
 use Rattle.base.proofs.Bools.{passes}
 use Rattle.base.proofs.Chain.{chain}
-use Rattle.checks.proofs.Sides.{few-cells, tiles-most}
+use Rattle.check_sizes.proofs.Sides.{few-cells, tiles-most}
 use borrow.Author.Needs.{needs}
 use Rattle.scores.proofs.planes_refused.Statement.{statement}
 use Rattle.scores.proofs.planes_refused.Tie as tie

@@ -2,13 +2,13 @@
 use mathlib.Core.Path.{_≡_, sym, _∙_}
 use Prim.Native.Nat.{_<_, _≤_}
 use native.Mathlib.Omega.{arith}
-use Rattle.checks.proofs.Sides.{board-rows, board-cols}
+use Rattle.check_sizes.proofs.Sides.{board-rows, board-cols}
 use Rattle.rules.specs.Places.{cellOf}
 use Rattle.places.proofs.Indices.{spanRound, row-below, col-below}
 use Rattle.base.proofs.Chain.{chain, part-passed}
 use Rattle.rules.proofs.Answered.{answers, done}
-use Rattle.spans.proofs.Spanned.{never-refused, rows-round, cols-round}
-use Rattle.scoring.specs.Region.{pastTargets}
+use Rattle.place_spans.proofs.Spanned.{never-refused, rows-round, cols-round}
+use Rattle.score_regions.specs.Region.{pastTargets}
 use Rattle.scores.proofs.Accept.{LayPasses, lay-passes}
 use Rattle.scores.proofs.Region.{lay-scored, scores-fit}
 use borrow.Author.Needs.{needs}

@@ -3,7 +3,7 @@ use Prim.Native.Nat.{_-_, _≤_}
 use mathlib.Core.Path.{_∙_}
 use native.Mathlib.Omega.{arith}
 use Rattle.rules.specs.Tiles.{variant, extracted}
-use Rattle.forms.proofs.Variants.{variant-nine}
+use Rattle.tile_forms.proofs.Variants.{variant-nine}
 use Rattle.tiles.proofs.Store.{Kept, kept-from, kept-chained, kept-then, full-end, done-end}
 use borrow.Author.Needs.{needs}
 use Rattle.tiles.proofs.gather.Statement.{statement}

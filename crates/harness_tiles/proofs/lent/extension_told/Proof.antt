@@ -1,6 +1,6 @@
 -- `harness_tiles::lent::extension_told` meets its contract: each case of the answer gives its number and its values. Assumes nothing.
 use mathlib.Core.Path.{refl}
-use Rattle.slots.proofs.Storing.{puts}
+use Rattle.boundary_slots.proofs.Storing.{puts}
 use Rattle.boundary.proofs.Back.{stored}
 use Rattle.harness_tiles.specs.Lent.{extensionNumber, extensionLeft}
 use Rattle.harness_tiles.proofs.Stored.{each-slice, unstored}

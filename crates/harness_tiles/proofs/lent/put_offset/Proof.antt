@@ -1,5 +1,5 @@
 -- `harness_tiles::lent::put_offset` meets its contract: the row is stored, then the column. Assumes nothing.
-use Rattle.slots.proofs.Storing.{then-set, puts}
+use Rattle.boundary_slots.proofs.Storing.{then-set, puts}
 use Rattle.places.proofs.Wide.{same}
 use borrow.Author.Needs.{needs}
 use Rattle.harness_tiles.proofs.lent.put_offset.Statement.{statement}

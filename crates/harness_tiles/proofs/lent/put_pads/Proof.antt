@@ -1,5 +1,5 @@
 -- `harness_tiles::lent::put_pads` meets its contract: the four are stored one after another. Assumes nothing.
-use Rattle.slots.proofs.Storing.{then-set}
+use Rattle.boundary_slots.proofs.Storing.{then-set}
 use borrow.Author.Needs.{needs}
 use Rattle.harness_tiles.proofs.lent.put_pads.Statement.{statement}
 use Rattle.harness_tiles.proofs.lent.put_pads.Tie as tie

@@ -1,0 +1,96 @@
+// The three planes of a board, pieces, weights and counts: the checks that fresh, lay and lift share.
+ghost use mathlib.Core.Path.{_≡_};
+ghost use Prim.Native.Nat.{_≤_, _<_};
+ghost use lib.ListN.{length};
+ghost use Rattle.base.specs.Refusal.{refusal};
+ghost use Rattle.rules.specs.Bounds.{maxCells, maxTiles};
+ghost use Rattle.rules.specs.Grid.{numberOf};
+ghost use Rattle.rules.specs.Board.{boardLengths, boardContents, layingChecks, liftingChecks};
+ghost use Rattle.rules.specs.Promises.{before, boardBefore};
+use check_contents::colours_refused;
+use check_contents::no_word_above;
+use check_sizes::board_sides;
+use check_sizes::cells_of;
+use check_sizes::words_have_length;
+use rules::Cell;
+
+// SHAPE and LENGTH of the three planes, 0 where all pass.
+pub fn lengths_refused(
+    pieces: &[u32],
+    weights: &[u32],
+    counts: &[u32],
+    rows: usize,
+    cols: usize,
+) -> u8
+    ensures { λ r. ⌜ r ≡ refusal (boardLengths rows cols (boardBefore pieces weights counts)) ⌝ }
+{
+    if !board_sides(rows, cols) {
+        return rules::SHAPE;
+    }
+    let cells = cells_of(rows, cols);
+    if !words_have_length(pieces, cells) {
+        return rules::LENGTH;
+    }
+    if !words_have_length(weights, cells) {
+        return rules::LENGTH;
+    }
+    if !words_have_length(counts, cells) {
+        return rules::LENGTH;
+    }
+    0
+}
+
+// COUNT, and CELL of all that is read, 0 where all pass; n is the number of tiles.
+pub fn contents_refused(
+    pieces: &[u32],
+    weights: &[u32],
+    counts: &[u32],
+    tiles: &[u8],
+    count: u32,
+    n: usize,
+) -> u8
+    requires { ⌜ n ≤ maxTiles ⌝ }
+    ensures { λ r. ⌜ r ≡ refusal (boardContents (before tiles) count (boardBefore pieces weights counts) n) ⌝ }
+{
+    let no = colours_refused(tiles, count, pieces);
+    if no != 0 {
+        return no;
+    }
+    if !no_word_above(weights, rules::MAX_WEIGHT) {
+        return rules::CELL;
+    }
+    if !no_word_above(counts, n as u32) {
+        return rules::CELL;
+    }
+    0
+}
+
+// TYPE and TAKEN of a lay on a cell of the board, 0 where both pass.
+pub fn laying_refused(pieces: &[u32], cols: usize, cell: Cell, count: u32, colour: u32) -> u8
+    requires { ⌜ (numberOf cols cell < length (now pieces)) × (length (now pieces) ≤ maxCells) ⌝ }
+    ensures { λ r. ⌜ r ≡ refusal (layingChecks (before pieces) (numberOf cols cell) count colour) ⌝ }
+{
+    if colour < 1 {
+        return rules::TYPE;
+    }
+    if count < colour {
+        return rules::TYPE;
+    }
+    let k = cell.0 * cols + cell.1;
+    if rules::BARE_PIECE < pieces[k] {
+        return rules::TAKEN;
+    }
+    0
+}
+
+// BARE of a lift on a cell of the board, 0 where a piece stands there.
+pub fn lifting_refused(pieces: &[u32], cols: usize, cell: Cell) -> u8
+    requires { ⌜ (numberOf cols cell < length (now pieces)) × (length (now pieces) ≤ maxCells) ⌝ }
+    ensures { λ r. ⌜ r ≡ refusal (liftingChecks (before pieces) (numberOf cols cell)) ⌝ }
+{
+    let k = cell.0 * cols + cell.1;
+    if rules::BARE_PIECE < pieces[k] {
+        return 0;
+    }
+    rules::BARE
+}

@@ -1,0 +1,27 @@
+-- `boundary_slots::put_long` meets its contract: within the slice it stores, past its end nothing changes. Assumes nothing.
+use Rattle.boundary_slots.proofs.Storing.{set-past}
+use Rattle.boundary_slots.specs.Slots.{put}
+use mathlib.Core.Path.{sym}
+use borrow.Author.Needs.{needs}
+use Rattle.boundary_slots.proofs.put_long.Statement.{statement}
+use Rattle.boundary_slots.proofs.put_long.Tie as tie
+
+mul-longs : tie.Need-mul-longs
+mul-longs c = search needs
+
+slice-write-longs : tie.Need-slice-write-longs
+slice-write-longs c = search needs
+
+same-length : tie.Need-same-length
+same-length c = search needs
+
+returns : tie.Need-returns
+unfolding put
+returns c = search needs
+
+returns-2 : tie.Need-returns-2
+unfolding put
+returns-2 c = sym (set-past _ _ _ (c .if1 .left))
+
+pub put-long-spec : {M : Type 1} → statement M
+put-long-spec = tie.close (tie.spec mul-longs slice-write-longs same-length returns returns-2)

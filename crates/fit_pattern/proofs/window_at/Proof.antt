@@ -1,0 +1,68 @@
+-- `fit_pattern::window_at` meets its contract. The loop's invariant: the places passed hold their colours. Assumes nothing.
+use Prim.Native.Nat.{_-_, _≤_}
+use mathlib.Core.Path.{_≡_, _∙_}
+use Rattle.base.proofs.Swept.{swept, swept-none, swept-turn, swept-all}
+use Rattle.rules.specs.Grid.{cellAt, numberOf, flat}
+use Rattle.rules.specs.Fit.{pattern}
+use Rattle.rules.specs.declared.Cell.{Cell}
+use Rattle.fit_pattern.proofs.Flat.{pattern-is}
+use borrow.Author.Needs.{needs}
+use Rattle.fit_pattern.proofs.window_at.Statement.{statement}
+use Rattle.fit_pattern.proofs.window_at.Tie as tie
+
+abbrev Inv-loop : tie.InvT-loop
+Inv-loop pieces rows cols row col window₀ i₀ window i =
+    (i ≤ 9) × (window ≡ swept 0 i (pattern (flat rows cols) pieces (numberOf cols (cellAt row col))) window₀)
+
+abbrev μ-loop : tie.MeasureT-loop
+μ-loop pieces rows cols row col window₀ i₀ window i = 9 - i
+
+loop-holds : tie.Need-loop-holds Inv-loop μ-loop
+loop-holds c = (search needs, swept-none 0 _ _)
+
+add-colour-at : tie.Need-add-colour-at Inv-loop μ-loop
+add-colour-at c = search needs
+
+add-colour-at-2 : tie.Need-add-colour-at-2 Inv-loop μ-loop
+add-colour-at-2 c = search needs
+
+colour-at-requires : tie.Need-colour-at-requires Inv-loop μ-loop
+colour-at-requires c κs = search needs
+
+array-write-window : tie.Need-array-write-window Inv-loop μ-loop
+array-write-window c = search needs
+
+add-i : tie.Need-add-i Inv-loop μ-loop
+add-i c = search needs
+
+loop-less : tie.Need-loop-less Inv-loop μ-loop
+loop-less c = search needs
+
+loop-again : tie.Need-loop-again Inv-loop μ-loop
+loop-again c =
+    let a = c .before .before .before .before .args in
+    let l = c .before .before .loop in
+    let cell : Cell = cellAt (a .row) (a .col) in (
+      search needs,
+      swept-turn 0 (l .window) _ (l .i) (pattern (flat (a .rows) (a .cols)) (a .pieces .now) (numberOf (a .cols) cell)) (c .colour-at .result)
+          (search needs) (l .inv .1) (c .colour-at .ensures ∙ pattern-is (a .rows) (a .cols) cell (l .i) (search needs) (a .pieces .now)),
+    )
+
+returns : tie.Need-returns Inv-loop μ-loop
+returns c = c .before .loop .inv .1 ∙ swept-all 0 (c .before .loop .i) _ _ (c .loop-test .left)
+
+pub window-at-spec : {M : Type 1} → statement M
+window-at-spec =
+    tie.close
+    (tie.spec
+    Inv-loop
+    μ-loop
+    loop-holds
+    add-colour-at
+    add-colour-at-2
+    colour-at-requires
+    array-write-window
+    add-i
+    loop-less
+    loop-again
+    returns)

@@ -1,0 +1,71 @@
+-- `fit_windows::viable_colours` meets its contract. The loop's invariant: left are the colours that the windows passed allow. Assumes nothing.
+use Prim.Native.Nat.{_-_, _≤_}
+use mathlib.Core.Path.{_≡_, _∙_}
+use native.Mathlib.Omega.{arith}
+use Rattle.rules.specs.Grid.{cellAt, numberOf, flat}
+use Rattle.rules.specs.Sets.{bitsOf}
+use Rattle.rules.specs.Fit.{leftAfter}
+use Rattle.fit_windows.proofs.Lists.{few-lt, order-lt, left-first, left-turn, left-none}
+use Rattle.fit_windows.proofs.Accepted.{ready-coloured}
+use borrow.Author.Needs.{needs}
+use Rattle.fit_windows.proofs.viable_colours.Statement.{statement}
+use Rattle.fit_windows.proofs.viable_colours.Tie as tie
+
+abbrev Inv-loop : tie.InvT-loop
+Inv-loop pieces rows cols tiles count row col left₀ i₀ left i =
+    (i ≤ 9) × (left ≡ bitsOf count (leftAfter (flat rows cols) tiles pieces (numberOf cols (cellAt row col)) i))
+
+abbrev μ-loop : tie.MeasureT-loop
+μ-loop pieces rows cols tiles count row col left₀ i₀ left i = 9 - i
+
+all-colours-requires : tie.Need-all-colours-requires Inv-loop μ-loop
+all-colours-requires c κs = search needs
+
+loop-holds : tie.Need-loop-holds Inv-loop μ-loop
+loop-holds c = (search needs, c .all-colours .ensures ∙ left-first _ _ _ _ _)
+
+returns : tie.Need-returns Inv-loop μ-loop
+returns c = let l = c .before .before .loop in left-none _ _ _ _ _ (l .inv .0) (l .inv .1) (c .if1 .taken)
+
+window-place-requires : tie.Need-window-place-requires Inv-loop μ-loop
+window-place-requires c κs = search needs
+
+narrowed-requires : tie.Need-narrowed-requires Inv-loop μ-loop
+narrowed-requires c κs =
+    let p = c .before .before .before .before .before .before .before .pre in
+    let l = c .before .before .before .loop in (
+      few-lt _ _ _ (p .0 .colours) (l .inv .1),
+      (p .0 .tried .board, (p .1, (ready-coloured _ _ _ _ _ (p .0), rw (c .window-place .ensures) (order-lt (l .i) (search needs))))),
+    )
+
+add-i : tie.Need-add-i Inv-loop μ-loop
+add-i c = search needs
+
+loop-less : tie.Need-loop-less Inv-loop μ-loop
+loop-less c = search needs
+
+loop-again : tie.Need-loop-again Inv-loop μ-loop
+loop-again c =
+    let l = c .before .before .before .before in
+    let p = l .before .before .before .before .pre in
+    (search needs, left-turn _ _ _ _ _ _ (p .0 .colours) (l .loop .inv .1) (c .before .window-place .ensures) (c .narrowed .ensures))
+
+returns-2 : tie.Need-returns-2 Inv-loop μ-loop
+returns-2 c = let nine : c .before .loop .i ≡ 9 = omega arith in
+    rw nine at (c .before .loop .inv .1)
+
+pub viable-colours-spec : {M : Type 1} → statement M
+viable-colours-spec =
+    tie.close
+    (tie.spec
+    Inv-loop
+    μ-loop
+    all-colours-requires
+    loop-holds
+    returns
+    window-place-requires
+    narrowed-requires
+    add-i
+    loop-less
+    loop-again
+    returns-2)

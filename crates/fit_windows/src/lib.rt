@@ -1,0 +1,207 @@
+// Document 01, "Fit", for calls that have made the checks: how many tiles fit a region, and which colours fit a cell, by its nine windows.
+ghost use mathlib.Core.Path.{_≡_};
+ghost use mathlib.Core.Bool.{not};
+ghost use Prim.Native.Nat.{_+_, _*_, _^_, _<_, _≤_};
+ghost use lib.Dec.{eqb};
+ghost use lib.ListN.{length, getD};
+ghost use Rattle.base.specs.Counting.{pick};
+ghost use Rattle.rules.specs.Grid.{cellAt, numberOf, flat};
+ghost use Rattle.rules.specs.Bounds.{maxColours, maxTiles};
+ghost use Rattle.rules.specs.Tests.{tilesIn};
+ghost use Rattle.rules.specs.Sets.{bitsOf};
+ghost use Rattle.rules.specs.Fit.{pattern, fitCount, serves, hasFitting, allows, windowOrder, lists, foundAt};
+ghost use Rattle.rules.specs.Promises.{before};
+ghost use Rattle.rules.specs.declared.Listing.the-variants.{Colours};
+ghost use Rattle.fit_pattern.specs.Words.{shownBy, Masked};
+ghost use Rattle.fit_pattern.specs.Ready.{Readable, OnGrid};
+ghost use Rattle.fit_windows.specs.Ready.{Countable, Ready, Coloured};
+ghost use Rattle.fit_windows.specs.Kept.{Keeps};
+use rules::Cell;
+use rules::Listing;
+use rules::TileBitset;
+
+// The place that the cell has in each of its nine windows, in the text's order: the window centred on the cell, then those centred
+// up, left, right and down of it, then on the corners row by row.
+const WINDOW_ORDER: [usize; 9] = [4, 7, 5, 3, 1, 8, 6, 2, 0];
+
+fn one_if(test: bool) -> u32
+    ensures { λ r. ⌜ r ≡ pick test 1 0 ⌝ }
+{
+    test as u32
+}
+
+// How many tiles fit the window: all of them where it is bare.
+fn fit_count(tiles: &[u8], window: &[u8; rules::TILE_CELLS], mask: &[u8; rules::TILE_CELLS]) -> u32
+    requires { ⌜ tilesIn (now tiles) ≤ maxTiles ⌝ }
+    requires { ⌜ Masked (now window) (now mask) ⌝ }
+    ensures { λ r. ⌜ r ≡ fitCount (before tiles) (shownBy (before window)) ⌝ }
+{
+    let last = tiles.len() / rules::TILE_CELLS;
+    if fit_pattern::is_bare(window) {
+        return last as u32;
+    }
+    let mut count = 0;
+    let mut n = 0;
+    while n < last {
+        count += one_if(fit_pattern::tile_fits(tiles, n, window, mask));
+        n += 1;
+    }
+    count
+}
+
+// The number of tiles that fit the region that starts at (row, col), for calls that have made the checks.
+pub fn fit_count_at(
+    pieces: &[u32],
+    rows: usize,
+    cols: usize,
+    tiles: &[u8],
+    row: usize,
+    col: usize,
+) -> u32
+    requires { ⌜ Countable (now pieces) rows cols (now tiles) ⌝ }
+    requires { ⌜ OnGrid rows cols row col ⌝ }
+    ensures { λ r. ⌜ r ≡ fitCount (before tiles) (pattern (flat rows cols) (before pieces) (numberOf cols (cellAt row col))) ⌝ }
+{
+    let window = fit_pattern::window_at(pieces, rows, cols, row, col);
+    let mask = fit_pattern::masks_for(&window);
+    fit_count(tiles, &window, &mask)
+}
+
+// The set without colour t.
+fn without_colour(bits: u32, t: u32) -> u32
+    requires { ⌜ t ≤ maxColours ⌝ }
+    ensures { λ r. ⌜ Keeps bits (λ u. not (eqb u t)) r ⌝ }
+{
+    let there = bitset_colours::common_colours(bits, bitset_colours::with_colour(0, t));
+    bits - there
+}
+
+// What is missing still once tile n was tried: a tile that fits the window serves the colour that it has at place q.
+fn missing_past(
+    missing: u32,
+    tiles: &[u8],
+    n: usize,
+    window: &[u8; rules::TILE_CELLS],
+    mask: &[u8; rules::TILE_CELLS],
+    q: usize,
+) -> u32
+    requires { ⌜ n * 9 + 9 ≤ length (now tiles) ⌝ }
+    requires { ⌜ Coloured (now tiles) ⌝ }
+    requires { ⌜ Masked (now window) (now mask) ⌝ }
+    requires { ⌜ q < 9 ⌝ }
+    ensures { λ r. ⌜ Keeps missing (λ t. not (serves (before tiles) (shownBy (before window)) q t n)) r ⌝ }
+{
+    if !fit_pattern::tile_fits(tiles, n, window, mask) {
+        return missing;
+    }
+    without_colour(missing, tiles[n * rules::TILE_CELLS + q] as u32)
+}
+
+// Those of the colours left that a fitting tile has at place q. The tiles are walked until no colour is missing.
+fn window_colours(
+    left: u32,
+    tiles: &[u8],
+    window: &[u8; rules::TILE_CELLS],
+    mask: &[u8; rules::TILE_CELLS],
+    q: usize,
+) -> u32
+    requires { ⌜ left < 2 ^ maxColours ⌝ }
+    requires { ⌜ Coloured (now tiles) ⌝ }
+    requires { ⌜ Masked (now window) (now mask) ⌝ }
+    requires { ⌜ q < 9 ⌝ }
+    ensures { λ r. ⌜ Keeps left (hasFitting (before tiles) (shownBy (before window)) q) r ⌝ }
+{
+    let end = tiles.len() / rules::TILE_CELLS;
+    let mut missing = left;
+    let mut n = 0;
+    while n < end {
+        if missing == 0 {
+            return left;
+        }
+        missing = missing_past(missing, tiles, n, window, mask, q);
+        n += 1;
+    }
+    left - missing
+}
+
+// Those of the colours left that the window which has the cell at place q allows.
+fn narrowed(
+    left: u32,
+    pieces: &[u32],
+    rows: usize,
+    cols: usize,
+    tiles: &[u8],
+    row: usize,
+    col: usize,
+    q: usize,
+) -> u32
+    requires { ⌜ left < 2 ^ maxColours ⌝ }
+    requires { ⌜ Readable (now pieces) rows cols ⌝ }
+    requires { ⌜ OnGrid rows cols row col ⌝ }
+    requires { ⌜ Coloured (now tiles) ⌝ }
+    requires { ⌜ q < 9 ⌝ }
+    ensures { λ r. ⌜ Keeps left (λ t. allows (flat rows cols) (before tiles) (before pieces) (numberOf cols (cellAt row col)) t q) r ⌝ }
+{
+    if row < q / 3 {
+        return left;
+    }
+    if col < q % 3 {
+        return left;
+    }
+    let window = fit_pattern::window_at(pieces, rows, cols, row - q / 3, col - q % 3);
+    let mask = fit_pattern::masks_for(&window);
+    window_colours(left, tiles, &window, &mask, q)
+}
+
+fn window_place(i: usize) -> usize
+    requires { ⌜ i < 9 ⌝ }
+    ensures { λ r. ⌜ r ≡ getD windowOrder i 0 ⌝ }
+{
+    WINDOW_ORDER[i]
+}
+
+// The colours listed at (row, col), as bits. The windows are left as soon as no colour is left.
+fn viable_colours(
+    pieces: &[u32],
+    rows: usize,
+    cols: usize,
+    tiles: &[u8],
+    count: u32,
+    row: usize,
+    col: usize,
+) -> u32
+    requires { ⌜ Ready (now pieces) rows cols (now tiles) count ⌝ }
+    requires { ⌜ OnGrid rows cols row col ⌝ }
+    ensures { λ r. ⌜ r ≡ bitsOf count (lists (flat rows cols) (before tiles) (before pieces) (numberOf cols (cellAt row col))) ⌝ }
+{
+    let mut left = bitset_colours::all_colours(count);
+    let mut i = 0;
+    while i < 9 {
+        if left == 0 {
+            return 0;
+        }
+        left = narrowed(left, pieces, rows, cols, tiles, row, col, window_place(i));
+        i += 1;
+    }
+    left
+}
+
+// The colours listed at a cell, for calls that have made the checks: always a set, in the answer that the calls give too.
+pub fn viable_tiles_at(
+    pieces: &[u32],
+    rows: usize,
+    cols: usize,
+    tiles: &[u8],
+    count: u32,
+    cell: Cell,
+) -> Listing
+    requires { ⌜ Ready (now pieces) rows cols (now tiles) count ⌝ }
+    requires { ⌜ OnGrid rows cols (cell .0) (cell .1) ⌝ }
+    ensures { λ r. ⌜ r ≡ Colours (foundAt (flat rows cols) (before tiles) (before pieces) count (numberOf cols cell)) ⌝ }
+{
+    let bits = viable_colours(pieces, rows, cols, tiles, count, cell.0, cell.1);
+    Listing::Colours(TileBitset {
+        bits: bits,
+        size: count,
+    })
+}
