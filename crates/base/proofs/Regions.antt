@@ -74,10 +74,10 @@ module _ {A : Type 0} (none : A) (step : ℕ → ℕ → A → A) (cols top bott
 
     pub region-start : RowsDone l l top
     region-start =
-        let b : top * cols ≤ bottom * cols = mul-le-mul-right cols (fits .down) in
+        let b : top * cols ≤ bottom * cols = mul-le-mul-right cols (fits .rowwise) in
         record {
           low = omega arith;
-          high = fits .down;
+          high = fits .rowwise;
           long = refl;
           sweep =
               sweep-skip sweep-none (omega arith) (omega arith)
@@ -116,18 +116,18 @@ module _ {A : Type 0} (none : A) (step : ℕ → ℕ → A → A) (cols top bott
 
           part : Sweep none (cellThen l) l (take a w ++ (ys ++ drop (e - a) (drop a w))) e
           part =
-              sweep-part (d .sweep) a e (omega arith) (omega (arith, fits .across)) (omega (arith, end, next-row r cols, fits .ends, fits .room)) made
+              sweep-part (d .sweep) a e (omega arith) (omega (arith, fits .colwise)) (omega (arith, end, next-row r cols, fits .ends, fits .room)) made
               (λ j h b.
               outside j
               (and-no-right (between top bottom (j / cols)) _
-              (not-before left right (j % cols) (omega (arith, at-col r j cols h (omega (arith, fits .across, fits .ends)))))))
+              (not-before left right (j % cols) (omega (arith, at-col r j cols h (omega (arith, fits .colwise, fits .ends)))))))
               (λ j h o. new j (omega arith) ∙ ap (step r (left + j)) o ∙ within j (omega arith))
 
           swept : Sweep none (cellThen l) l (take a w ++ (ys ++ drop (e - a) (drop a w))) ((r + 1) * cols)
           swept =
               sweep-skip part (omega (arith, next-row r cols, fits .ends)) (omega (arith, end, fits .room))
               (λ j h b.
-              let low : r * cols ≤ j = omega (arith, fits .across) in
+              let low : r * cols ≤ j = omega (arith, fits .colwise) in
               let high : j < r * cols + cols = omega (arith, next-row r cols) in
               outside j
               (and-no-right (between top bottom (j / cols)) _ (not-after left right (j % cols) (omega (arith, at-col r j cols low high)))))

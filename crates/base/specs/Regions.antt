@@ -18,8 +18,8 @@ inside top bottom left right r c = between top bottom r && between left right c
 -- the region lies in the plane, and neither side of it ends before it starts
 pub record RegionFits (cells cols top bottom left right : ℕ) : Type 0 where
   pub wide : 0 < cols
-  pub down : top ≤ bottom
-  pub across : left ≤ right
+  pub rowwise : top ≤ bottom
+  pub colwise : left ≤ right
   pub ends : right ≤ cols
   pub room : bottom * cols ≤ cells
 

@@ -6,7 +6,7 @@ use Rattle.rules.specs.Sets.{emptySet, fullSet, inserted, contained, intersecte
 use Rattle.rules.specs.declared.TileBitset.{TileBitset}
 use Rattle.rules.specs.declared.SetAnswer.{SetAnswer}
 use Rattle.rules.specs.declared.Verdict.{Verdict}
-use Rattle.rules.specs.declared.Number.{Number}
+use Rattle.rules.specs.declared.CountAnswer.{CountAnswer}
 use Rattle.rules.specs.declared.ColourList.{ColourList}
 
 pub new-coincides : {x y : SetAnswer} (size : ℕ) → x ≡ emptySet size → y ≡ emptySet size → x ≡ y
@@ -27,7 +27,7 @@ intersection-coincides s u = coincide
 pub is-empty-coincides : {x y : Verdict} (s : TileBitset) → x ≡ emptiness s → y ≡ emptiness s → x ≡ y
 is-empty-coincides s = coincide
 
-pub count-coincides : {x y : Number} (s : TileBitset) → x ≡ membersCounted s → y ≡ membersCounted s → x ≡ y
+pub count-coincides : {x y : CountAnswer} (s : TileBitset) → x ≡ membersCounted s → y ≡ membersCounted s → x ≡ y
 count-coincides s = coincide
 
 pub to-vec-coincides : {x y : ColourList} (s : TileBitset) → x ≡ membersListed s → y ≡ membersListed s → x ≡ y

@@ -6,7 +6,7 @@ ghost use Rattle.base.specs.Refusal.{refusal};
 ghost use Rattle.rules.specs.Tests.{colourCount};
 ghost use Rattle.rules.specs.Sets.{marksWithin, setChecks, setsChecks, emptySet, fullSet, inserted, contained, intersected, emptiness, membersCounted, membersListed};
 use rules::ColourList;
-use rules::Number;
+use rules::CountAnswer;
 use rules::SetAnswer;
 use rules::TileBitset;
 use rules::Verdict;
@@ -129,14 +129,14 @@ pub fn is_empty(set: TileBitset) -> Verdict
     Verdict::Is(bitset_colours::no_colour(set.bits))
 }
 
-pub fn count(set: TileBitset) -> Number
+pub fn count(set: TileBitset) -> CountAnswer
     ensures { λ r. ⌜ r ≡ membersCounted set ⌝ }
 {
     let refused = set_refusal(set);
     if refused != 0 {
-        return Number::Refused(refused);
+        return CountAnswer::Refused(refused);
     }
-    Number::Is(bitset_colours::colours_in(set.bits) as usize)
+    CountAnswer::Is(bitset_colours::colours_in(set.bits) as usize)
 }
 
 pub fn to_vec(set: TileBitset) -> ColourList

@@ -1,6 +1,6 @@
 -- What lay and lift lean on once the checks of the planes and of the place have passed.
 --     contents-by     the contents, by the number of tiles that `tile_number` answers
---     standing        what the rule beneath the checks asks of the board, the cell and the spans round it
+--     movable        what the rule beneath the checks asks of the board, the cell and the spans round it
 --     colour-low      a colour that may be laid is a colour of the count, and the count is in bounds
 -- Assumes nothing.
 use Prim.Native.Nat.{ℕ, _≤_}
@@ -34,7 +34,7 @@ use Rattle.fit_windows.proofs.Accepted.{ready-from}
 use Rattle.board_near.specs.Near.{nearSpans}
 use Rattle.board_near.proofs.Leaning.{on-plane}
 use Rattle.board_near.proofs.Placing.{place-passes, nearby}
-use Rattle.board_moves.specs.Standing.{Standing}
+use Rattle.board_moves.specs.Movable.{Movable}
 
 pub contents-by : (tiles : List ℕ) (count : ℕ) (b : Board) (a : TileNumber) (x : ℕ) → a ≡ Tiles x → a ≡ tilesCounted tiles
     → (m : ℕ) → m ≡ refusal (boardContents tiles count b x) → m ≡ refusal (boardContents tiles count b (tilesIn tiles))
@@ -45,11 +45,11 @@ module _ (pieces weights counts : List ℕ) (rows cols : ℕ) (tiles : List ℕ)
   passed : Passes (boardChecks (panel rows cols tiles o) count (board pieces weights counts))
   passed = all-pass (boardChecks (panel rows cols tiles o) count (board pieces weights counts)) refl (sym e)
 
-  pub standing : (w : World) (a : SpanAnswer) (down across : Span) → a ≡ Spans down across → a ≡ nearSpans rows cols w o
-      → (cell : Cell) → cell ≡ cellOf w o → Standing (board pieces weights counts) rows cols tiles cell down across
-  standing w a down across z n cell q =
+  pub movable : (w : World) (a : SpanAnswer) (rowspan colspan : Span) → a ≡ Spans rowspan colspan → a ≡ nearSpans rows cols w o
+      → (cell : Cell) → cell ≡ cellOf w o → Movable (board pieces weights counts) rows cols tiles cell rowspan colspan
+  movable w a rowspan colspan z n cell q =
       let h = passed in
-      let b : onBoard rows cols w o ≡ true = placed rows cols w o (sym (place-passes rows cols w o a down across z n)) .boarded in
+      let b : onBoard rows cols w o ≡ true = placed rows cols w o (sym (place-passes rows cols w o a rowspan colspan z n)) .boarded in
       let y : Passes (piecesChecks pieces rows cols tiles count) = search in
       let low : noneAbove weights maxWeight ≡ true = search in
       rw q
@@ -57,7 +57,7 @@ module _ (pieces weights counts : List ℕ) (rows cols : ℕ) (tiles : List ℕ)
         pieces = on-plane pieces rows cols w o (search) (search) b;
         weights = on-plane weights rows cols w o (search) (search) b;
         counts = on-plane counts rows cols w o (search) (search) b;
-        near = nearby rows cols w o a down across z n;
+        near = nearby rows cols w o a rowspan colspan z n;
         ready = ready-from pieces rows cols tiles count y .tried;
         light = λ i l. omega (arith, none-above weights maxWeight low i l);
       }

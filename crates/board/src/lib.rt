@@ -26,11 +26,11 @@ pub fn lay(
     cols: usize,
     tiles: &[u8],
     count: u32,
-    position: World,
+    place: World,
     offset: Offset,
     colour: u32,
 ) -> LayAnswer
-    ensures { λ a. ⌜ Lays (panel rows cols (before tiles) offset) count position colour
+    ensures { λ a. ⌜ Lays (panel rows cols (before tiles) offset) count place colour
         (boardBefore pieces weights counts) a (boardAfter pieces weights counts) ⌝ }
 {
     let no = lengths_refused(pieces, weights, counts, rows, cols);
@@ -44,10 +44,10 @@ pub fn lay(
     if bad != 0 {
         return LayAnswer::Refused(bad);
     }
-    let SpanAnswer::Spans(down, across) = near_spans(rows, cols, position, offset) else {
+    let SpanAnswer::Spans(rowspan, colspan) = near_spans(rows, cols, place, offset) else {
         return LayAnswer::Refused(rules::PLACE);
     };
-    let cell = cell_of(position, offset);
+    let cell = cell_of(place, offset);
     let wrong = laying_refused(pieces, cols, cell, count, colour);
     if wrong != 0 {
         return LayAnswer::Refused(wrong);
@@ -60,8 +60,8 @@ pub fn lay(
         cols,
         tiles,
         cell,
-        down,
-        across,
+        rowspan,
+        colspan,
         colour,
     );
     LayAnswer::Laid
@@ -76,10 +76,10 @@ pub fn lift(
     cols: usize,
     tiles: &[u8],
     count: u32,
-    position: World,
+    place: World,
     offset: Offset,
 ) -> LiftAnswer
-    ensures { λ a. ⌜ Lifts (panel rows cols (before tiles) offset) count position
+    ensures { λ a. ⌜ Lifts (panel rows cols (before tiles) offset) count place
         (boardBefore pieces weights counts) a (boardAfter pieces weights counts) ⌝ }
 {
     let no = lengths_refused(pieces, weights, counts, rows, cols);
@@ -93,10 +93,10 @@ pub fn lift(
     if bad != 0 {
         return LiftAnswer::Refused(bad);
     }
-    let SpanAnswer::Spans(down, across) = near_spans(rows, cols, position, offset) else {
+    let SpanAnswer::Spans(rowspan, colspan) = near_spans(rows, cols, place, offset) else {
         return LiftAnswer::Refused(rules::PLACE);
     };
-    let cell = cell_of(position, offset);
+    let cell = cell_of(place, offset);
     let wrong = lifting_refused(pieces, cols, cell);
     if wrong != 0 {
         return LiftAnswer::Refused(wrong);
@@ -109,8 +109,8 @@ pub fn lift(
         cols,
         tiles,
         cell,
-        down,
-        across,
+        rowspan,
+        colspan,
     );
     LiftAnswer::Lifted
 }

@@ -2,10 +2,10 @@
 ghost use mathlib.Core.Path.{_≡_};
 ghost use Prim.Native.Nat.{_≤_};
 ghost use Rattle.rules.specs.Bounds.{maxColours};
-ghost use Rattle.rules.specs.Grid.{numberOf, flat};
+ghost use Rattle.rules.specs.Grid.{entryOf, flat};
 ghost use Rattle.rules.specs.Board.{laid, lifted};
 ghost use Rattle.rules.specs.Promises.{before, board, boardBefore, boardAfter};
-ghost use Rattle.board_moves.specs.Standing.{Standing};
+ghost use Rattle.board_moves.specs.Movable.{Movable};
 use board_recount::recount_near;
 use board_weights::lower_near;
 use board_weights::raise_near;
@@ -20,17 +20,17 @@ pub fn lay_at(
     cols: usize,
     tiles: &[u8],
     cell: Cell,
-    down: Span,
-    across: Span,
+    rowspan: Span,
+    colspan: Span,
     colour: u32,
 )
-    requires { ⌜ (Standing (board (now pieces) (now weights) (now counts)) rows cols (now tiles) cell down across) × (colour ≤ maxColours) ⌝ }
-    ensures { λ _. ⌜ boardAfter pieces weights counts ≡ laid (flat rows cols) (before tiles) (boardBefore pieces weights counts) (numberOf cols cell) colour ⌝ }
+    requires { ⌜ (Movable (board (now pieces) (now weights) (now counts)) rows cols (now tiles) cell rowspan colspan) × (colour ≤ maxColours) ⌝ }
+    ensures { λ _. ⌜ boardAfter pieces weights counts ≡ laid (flat rows cols) (before tiles) (boardBefore pieces weights counts) (entryOf cols cell) colour ⌝ }
 {
     let k = cell.0 * cols + cell.1;
     pieces[k] = colour + 1;
-    raise_near(weights, rows, cols, cell, down, across);
-    recount_near(counts, pieces, rows, cols, tiles, down, across);
+    raise_near(weights, rows, cols, cell, rowspan, colspan);
+    recount_near(counts, pieces, rows, cols, tiles, rowspan, colspan);
 }
 
 pub fn lift_at(
@@ -41,14 +41,14 @@ pub fn lift_at(
     cols: usize,
     tiles: &[u8],
     cell: Cell,
-    down: Span,
-    across: Span,
+    rowspan: Span,
+    colspan: Span,
 )
-    requires { ⌜ Standing (board (now pieces) (now weights) (now counts)) rows cols (now tiles) cell down across ⌝ }
-    ensures { λ _. ⌜ boardAfter pieces weights counts ≡ lifted (flat rows cols) (before tiles) (boardBefore pieces weights counts) (numberOf cols cell) ⌝ }
+    requires { ⌜ Movable (board (now pieces) (now weights) (now counts)) rows cols (now tiles) cell rowspan colspan ⌝ }
+    ensures { λ _. ⌜ boardAfter pieces weights counts ≡ lifted (flat rows cols) (before tiles) (boardBefore pieces weights counts) (entryOf cols cell) ⌝ }
 {
     let k = cell.0 * cols + cell.1;
     pieces[k] = rules::BARE_PIECE;
-    lower_near(weights, rows, cols, cell, down, across);
-    recount_near(counts, pieces, rows, cols, tiles, down, across);
+    lower_near(weights, rows, cols, cell, rowspan, colspan);
+    recount_near(counts, pieces, rows, cols, tiles, rowspan, colspan);
 }

@@ -10,7 +10,7 @@ use Rattle.base.proofs.Numbers.{cell-lt, mul-le}
 use Rattle.rules.specs.Bounds.{maxCells}
 use Rattle.rules.specs.Tests.{boardSides, hasLength, onBoard}
 use Rattle.rules.specs.Places.{cellOf}
-use Rattle.rules.specs.Grid.{numberOf}
+use Rattle.rules.specs.Grid.{entryOf}
 use Rattle.rules.specs.declared.World.{World}
 use Rattle.rules.specs.declared.Offset.{Offset}
 use Rattle.rules.specs.declared.Cell.{Cell}
@@ -26,14 +26,14 @@ on-plane plane rows cols w o s h b =
       tall = board-rows rows cols s .1;
       wide = board-cols rows cols s .1;
       long = long plane (rows * cols) h;
-      down = row-below rows cols w o b;
-      across = col-below rows cols w o b;
+      rowwise = row-below rows cols w o b;
+      colwise = col-below rows cols w o b;
     }
 
 -- a cell of such a plane is one of its entries, and the plane is in bounds
 pub in-plane : (plane : List ℕ) (rows cols : ℕ) (cell : Cell) → OnPlane plane rows cols cell
-    → (numberOf cols cell < length plane) × (length plane ≤ maxCells)
+    → (entryOf cols cell < length plane) × (length plane ≤ maxCells)
 in-plane plane rows cols cell p =
-    let a : numberOf cols cell < rows * cols = cell-lt (p .down) (p .across) in
+    let a : entryOf cols cell < rows * cols = cell-lt (p .rowwise) (p .colwise) in
     let b : rows * cols ≤ maxCells = mul-le (p .tall) (p .wide) in
     (omega (arith, p .long), omega (arith, p .long))

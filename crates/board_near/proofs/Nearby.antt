@@ -14,13 +14,13 @@ use Rattle.base.specs.Regions.{between, inside, RegionFits}
 use Rattle.base.proofs.Bools.{and-left, and-right, by-test, and-both, never}
 use Rattle.base.proofs.Numbers.{row-of, col-of, row-lt, col-lt, lt-or-le}
 use Rattle.base.proofs.Regions.{between-low, between-high, is-between}
-use Rattle.rules.specs.Grid.{numberOf, cellWith, gap, distance, flat}
+use Rattle.rules.specs.Grid.{entryOf, cellWith, gap, distance, flat}
 use Rattle.rules.specs.declared.Cell.{Cell}
 use Rattle.rules.specs.declared.Span.{Span}
 use Rattle.board_near.specs.Near.{OnPlane, Nearby}
 
 -- the distance on the flat board from a cell to the one with the number k
-pub apart-is : (rows cols : ℕ) (cell : Cell) (k : ℕ) → cell .1 < cols → flat rows cols .apart (numberOf cols cell) k ≡ distance cell (cellWith cols k)
+pub apart-is : (rows cols : ℕ) (cell : Cell) (k : ℕ) → cell .1 < cols → flat rows cols .apart (entryOf cols cell) k ≡ distance cell (cellWith cols k)
 unfolding flat
 apart-is rows cols cell k h = rw (row-of (cell .0) {c = cell .1} {cols = cols} h, col-of (cell .0) {c = cell .1} {cols = cols} h)
 
@@ -38,19 +38,19 @@ gap-close : (x side n : ℕ) → between (x - 2) (min (x + 3) side) n ≡ true �
 gap-close x side n e =
     omega (arith, between-low (x - 2) (min (x + 3) side) n e, between-high (x - 2) (min (x + 3) side) n e, min-le-left (x + 3) side)
 
-module _ (rows cols : ℕ) (cell : Cell) (down across : Span) (near : Nearby rows cols cell down across) where
+module _ (rows cols : ℕ) (cell : Cell) (rowspan colspan : Span) (near : Nearby rows cols cell rowspan colspan) where
   abbrev inNear : ℕ → Bool
-  inNear k = inside (down .0) (down .1) (across .0) (across .1) (k / cols) (k % cols)
+  inNear k = inside (rowspan .0) (rowspan .1) (colspan .0) (colspan .1) (k / cols) (k % cols)
 
-  pub near-region : (plane : List ℕ) → OnPlane plane rows cols cell → RegionFits (length plane) cols (down .0) (down .1) (across .0) (across .1)
+  pub near-region : (plane : List ℕ) → OnPlane plane rows cols cell → RegionFits (length plane) cols (rowspan .0) (rowspan .1) (colspan .0) (colspan .1)
   near-region plane on =
-      let below : cell .0 - 2 ≤ min (cell .0 + 3) rows = le-min (omega arith) (omega (arith, on .down)) in
-      let right : cell .1 - 2 ≤ min (cell .1 + 3) cols = le-min (omega arith) (omega (arith, on .across)) in
+      let below : cell .0 - 2 ≤ min (cell .0 + 3) rows = le-min (omega arith) (omega (arith, on .rowwise)) in
+      let right : cell .1 - 2 ≤ min (cell .1 + 3) cols = le-min (omega arith) (omega (arith, on .colwise)) in
       let ends : min (cell .0 + 3) rows * cols ≤ rows * cols = mul-le-mul-right cols (min-le-right (cell .0 + 3) rows) in
       record {
-        wide = omega (arith, on .across);
-        down = omega (arith, near .top, near .bottom);
-        across = omega (arith, near .left, near .right);
+        wide = omega (arith, on .colwise);
+        rowwise = omega (arith, near .top, near .bottom);
+        colwise = omega (arith, near .left, near .right);
         ends = omega (arith, near .right, min-le-right (cell .1 + 3) cols);
         room = rw (near .bottom) (omega (arith, on .long));
       }

@@ -21,23 +21,23 @@ pub record OnPlane (plane : List ℕ) (rows cols : ℕ) (cell : Cell) : Type 0 w
   pub tall : rows ≤ maxBoardSide
   pub wide : cols ≤ maxBoardSide
   pub long : length plane ≡ rows * cols
-  pub down : cell .0 < rows
-  pub across : cell .1 < cols
+  pub rowwise : cell .0 < rows
+  pub colwise : cell .1 < cols
 
 -- the spans of radius 2 round a cell, their ends clipped to the sides
-pub record Nearby (rows cols : ℕ) (cell : Cell) (down across : Span) : Type 0 where
-  pub top : down .0 ≡ cell .0 - 2
-  pub bottom : down .1 ≡ min (cell .0 + 3) rows
-  pub left : across .0 ≡ cell .1 - 2
-  pub right : across .1 ≡ min (cell .1 + 3) cols
+pub record Nearby (rows cols : ℕ) (cell : Cell) (rowspan colspan : Span) : Type 0 where
+  pub top : rowspan .0 ≡ cell .0 - 2
+  pub bottom : rowspan .1 ≡ min (cell .0 + 3) rows
+  pub left : colspan .0 ≡ cell .1 - 2
+  pub right : colspan .1 ≡ min (cell .1 + 3) cols
 
 -- those spans of a place that has to lie on the board
 abbrev pub endClipped : ℕ → Span → Span
 endClipped side s = record { 0 = s .0; 1 = min (s .1) side }
 
 unfoldable pub nearSpans : ℕ → ℕ → World → Offset → SpanAnswer
-nearSpans rows cols w o =
+nearSpans rows cols place offset =
     spanAnswer
-    (refusal (placeChecks rows cols w o))
-    (endClipped rows (spanOf (w .0 +ℤ o .0) 2))
-    (endClipped cols (spanOf (w .1 +ℤ o .1) 2))
+    (refusal (placeChecks rows cols place offset))
+    (endClipped rows (spanOf (place .0 +ℤ offset .0) 2))
+    (endClipped cols (spanOf (place .1 +ℤ offset .1) 2))

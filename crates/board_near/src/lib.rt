@@ -27,9 +27,9 @@ fn larger(a: usize, b: usize) -> usize
 pub fn distance(cell: Cell, row: usize, col: usize) -> usize
     ensures { λ r. ⌜ r ≡ distance cell (cellAt row col) ⌝ }
 {
-    let down = gap_of(cell.0, row);
-    let across = gap_of(cell.1, col);
-    larger(down, across)
+    let rowgap = gap_of(cell.0, row);
+    let colgap = gap_of(cell.1, col);
+    larger(rowgap, colgap)
 }
 
 // The span, its end clipped to the side.
@@ -46,14 +46,14 @@ fn clipped(span: Span, side: usize) -> Span
 }
 
 // The spans of radius 2 round a place on the board, their ends clipped to its sides; PLACE where it is off the board or out of bounds.
-pub fn near_spans(rows: usize, cols: usize, position: World, offset: Offset) -> SpanAnswer
-    ensures { λ r. ⌜ r ≡ nearSpans rows cols position offset ⌝ }
+pub fn near_spans(rows: usize, cols: usize, place: World, offset: Offset) -> SpanAnswer
+    ensures { λ r. ⌜ r ≡ nearSpans rows cols place offset ⌝ }
 {
-    let SpanAnswer::Spans(down, across) = get_region_spans(offset, position, 2) else {
+    let SpanAnswer::Spans(rowspan, colspan) = get_region_spans(offset, place, 2) else {
         return SpanAnswer::Refused(rules::PLACE);
     };
-    if !on_board(rows, cols, position, offset) {
+    if !on_board(rows, cols, place, offset) {
         return SpanAnswer::Refused(rules::PLACE);
     }
-    SpanAnswer::Spans(clipped(down, rows), clipped(across, cols))
+    SpanAnswer::Spans(clipped(rowspan, rows), clipped(colspan, cols))
 }

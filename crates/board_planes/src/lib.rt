@@ -4,7 +4,7 @@ ghost use Prim.Native.Nat.{_≤_, _<_};
 ghost use lib.ListN.{length};
 ghost use Rattle.base.specs.Refusal.{refusal};
 ghost use Rattle.rules.specs.Bounds.{maxCells, maxTiles};
-ghost use Rattle.rules.specs.Grid.{numberOf};
+ghost use Rattle.rules.specs.Grid.{entryOf};
 ghost use Rattle.rules.specs.Board.{boardLengths, boardContents, layingChecks, liftingChecks};
 ghost use Rattle.rules.specs.Promises.{before, boardBefore};
 use check_contents::colours_refused;
@@ -67,8 +67,8 @@ pub fn contents_refused(
 
 // TYPE and TAKEN of a lay on a cell of the board, 0 where both pass.
 pub fn laying_refused(pieces: &[u32], cols: usize, cell: Cell, count: u32, colour: u32) -> u8
-    requires { ⌜ (numberOf cols cell < length (now pieces)) × (length (now pieces) ≤ maxCells) ⌝ }
-    ensures { λ r. ⌜ r ≡ refusal (layingChecks (before pieces) (numberOf cols cell) count colour) ⌝ }
+    requires { ⌜ (entryOf cols cell < length (now pieces)) × (length (now pieces) ≤ maxCells) ⌝ }
+    ensures { λ r. ⌜ r ≡ refusal (layingChecks (before pieces) (entryOf cols cell) count colour) ⌝ }
 {
     if colour < 1 {
         return rules::TYPE;
@@ -85,8 +85,8 @@ pub fn laying_refused(pieces: &[u32], cols: usize, cell: Cell, count: u32, colou
 
 // BARE of a lift on a cell of the board, 0 where a piece stands there.
 pub fn lifting_refused(pieces: &[u32], cols: usize, cell: Cell) -> u8
-    requires { ⌜ (numberOf cols cell < length (now pieces)) × (length (now pieces) ≤ maxCells) ⌝ }
-    ensures { λ r. ⌜ r ≡ refusal (liftingChecks (before pieces) (numberOf cols cell)) ⌝ }
+    requires { ⌜ (entryOf cols cell < length (now pieces)) × (length (now pieces) ≤ maxCells) ⌝ }
+    ensures { λ r. ⌜ r ≡ refusal (liftingChecks (before pieces) (entryOf cols cell)) ⌝ }
 {
     let k = cell.0 * cols + cell.1;
     if rules::BARE_PIECE < pieces[k] {

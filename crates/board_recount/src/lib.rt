@@ -8,7 +8,7 @@ ghost use Rattle.rules.specs.Bounds.{maxTiles};
 ghost use Rattle.rules.specs.Grid.{flat};
 ghost use Rattle.rules.specs.Board.{countedContents, countedPlanes};
 ghost use Rattle.rules.specs.Promises.{before, after, panel, Recounts};
-ghost use Rattle.fit_pattern.specs.Ready.{OnGrid};
+ghost use Rattle.fit_pattern.specs.Ready.{CellOn};
 ghost use Rattle.fit_windows.specs.Ready.{Countable};
 ghost use Rattle.board_recount.specs.Recounted.{recountedBy, recountedIn, InSpans};
 use board_near::near_spans;
@@ -36,7 +36,7 @@ fn count_after(
     col: usize,
     old: u32,
 ) -> u32
-    requires { ⌜ (Countable (now pieces) rows cols (now tiles)) × (OnGrid rows cols row col) ⌝ }
+    requires { ⌜ (Countable (now pieces) rows cols (now tiles)) × (CellOn rows cols row col) ⌝ }
     ensures { λ r. ⌜ r ≡ recountedBy (flat rows cols) cols (before tiles) (before pieces) row col old ⌝ }
 {
     if rows <= row + 2 {
@@ -75,16 +75,16 @@ pub fn recount_near(
     rows: usize,
     cols: usize,
     tiles: &[u8],
-    down: Span,
-    across: Span,
+    rowspan: Span,
+    colspan: Span,
 )
-    requires { ⌜ (InSpans (now counts) rows cols down across) × (Countable (now pieces) rows cols (now tiles)) ⌝ }
-    ensures { λ _. ⌜ after counts ≡ recountedIn (flat rows cols) cols (before tiles) (before pieces) down across (before counts) ⌝ }
+    requires { ⌜ (InSpans (now counts) rows cols rowspan colspan) × (Countable (now pieces) rows cols (now tiles)) ⌝ }
+    ensures { λ _. ⌜ after counts ≡ recountedIn (flat rows cols) cols (before tiles) (before pieces) rowspan colspan (before counts) ⌝ }
 {
-    let mut row = down.0;
-    while row < down.1 {
-        let from = row * cols + across.0;
-        let to = row * cols + across.1;
+    let mut row = rowspan.0;
+    while row < rowspan.1 {
+        let from = row * cols + colspan.0;
+        let to = row * cols + colspan.1;
         recount_row(
             &mut counts[from..to],
             pieces,
@@ -92,7 +92,7 @@ pub fn recount_near(
             cols,
             tiles,
             row,
-            across.0,
+            colspan.0,
         );
         row += 1;
     }
@@ -148,18 +148,18 @@ pub fn recount_feasibility(
     cols: usize,
     tiles: &[u8],
     count: u32,
-    position: World,
+    place: World,
     offset: Offset,
 ) -> Written
-    ensures { λ a. ⌜ Recounts (panel rows cols (before tiles) offset) count position (before pieces) (before counts) a (after counts) ⌝ }
+    ensures { λ a. ⌜ Recounts (panel rows cols (before tiles) offset) count place (before pieces) (before counts) a (after counts) ⌝ }
 {
     let no = planes_refused(counts, pieces, rows, cols, tiles, count);
     if no != 0 {
         return Written::Refused(no);
     }
-    let SpanAnswer::Spans(down, across) = near_spans(rows, cols, position, offset) else {
+    let SpanAnswer::Spans(rowspan, colspan) = near_spans(rows, cols, place, offset) else {
         return Written::Refused(rules::PLACE);
     };
-    recount_near(counts, pieces, rows, cols, tiles, down, across);
+    recount_near(counts, pieces, rows, cols, tiles, rowspan, colspan);
     Written::Done
 }

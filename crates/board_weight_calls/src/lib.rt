@@ -39,20 +39,20 @@ pub fn raise_adjacency_weights(
     weights: &mut [u32],
     rows: usize,
     cols: usize,
-    position: World,
+    place: World,
     offset: Offset,
 ) -> Written
-    ensures { λ a. ⌜ Raises flat rows cols position offset (before weights) a (after weights) ⌝ }
+    ensures { λ a. ⌜ Raises flat rows cols place offset (before weights) a (after weights) ⌝ }
 {
     let no = weights_refused(weights, rows, cols);
     if no != 0 {
         return Written::Refused(no);
     }
-    let SpanAnswer::Spans(down, across) = near_spans(rows, cols, position, offset) else {
+    let SpanAnswer::Spans(rowspan, colspan) = near_spans(rows, cols, place, offset) else {
         return Written::Refused(rules::PLACE);
     };
-    let cell = cell_of(position, offset);
-    raise_near(weights, rows, cols, cell, down, across);
+    let cell = cell_of(place, offset);
+    raise_near(weights, rows, cols, cell, rowspan, colspan);
     Written::Done
 }
 
@@ -61,19 +61,19 @@ pub fn revert_adjacency_weights(
     weights: &mut [u32],
     rows: usize,
     cols: usize,
-    position: World,
+    place: World,
     offset: Offset,
 ) -> Written
-    ensures { λ a. ⌜ Lowers flat rows cols position offset (before weights) a (after weights) ⌝ }
+    ensures { λ a. ⌜ Lowers flat rows cols place offset (before weights) a (after weights) ⌝ }
 {
     let no = weights_refused(weights, rows, cols);
     if no != 0 {
         return Written::Refused(no);
     }
-    let SpanAnswer::Spans(down, across) = near_spans(rows, cols, position, offset) else {
+    let SpanAnswer::Spans(rowspan, colspan) = near_spans(rows, cols, place, offset) else {
         return Written::Refused(rules::PLACE);
     };
-    let cell = cell_of(position, offset);
-    lower_near(weights, rows, cols, cell, down, across);
+    let cell = cell_of(place, offset);
+    lower_near(weights, rows, cols, cell, rowspan, colspan);
     Written::Done
 }

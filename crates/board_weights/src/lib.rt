@@ -5,7 +5,7 @@ ghost use Prim.Native.Nat.{_+_, _-_, _≤_};
 ghost use lib.ListN.{length};
 ghost use Rattle.base.specs.Regions.{overRow};
 ghost use Rattle.rules.specs.Bounds.{maxBoardSide};
-ghost use Rattle.rules.specs.Grid.{cellAt, numberOf, distance, flat};
+ghost use Rattle.rules.specs.Grid.{cellAt, entryOf, distance, flat};
 ghost use Rattle.rules.specs.Board.{share, raised, lowered};
 ghost use Rattle.rules.specs.Promises.{before, after};
 ghost use Rattle.board_near.specs.Near.{OnPlane, Nearby};
@@ -69,17 +69,17 @@ pub fn raise_near(
     rows: usize,
     cols: usize,
     cell: Cell,
-    down: Span,
-    across: Span,
+    rowspan: Span,
+    colspan: Span,
 )
-    requires { ⌜ (OnPlane (now weights) rows cols cell) × (Nearby rows cols cell down across) × (Light (now weights)) ⌝ }
-    ensures { λ _. ⌜ after weights ≡ raised (flat rows cols) (numberOf cols cell) (before weights) ⌝ }
+    requires { ⌜ (OnPlane (now weights) rows cols cell) × (Nearby rows cols cell rowspan colspan) × (Light (now weights)) ⌝ }
+    ensures { λ _. ⌜ after weights ≡ raised (flat rows cols) (entryOf cols cell) (before weights) ⌝ }
 {
-    let mut row = down.0;
-    while row < down.1 {
-        let from = row * cols + across.0;
-        let to = row * cols + across.1;
-        raise_row(&mut weights[from..to], cell, row, across.0);
+    let mut row = rowspan.0;
+    while row < rowspan.1 {
+        let from = row * cols + colspan.0;
+        let to = row * cols + colspan.1;
+        raise_row(&mut weights[from..to], cell, row, colspan.0);
         row += 1;
     }
 }
@@ -90,17 +90,17 @@ pub fn lower_near(
     rows: usize,
     cols: usize,
     cell: Cell,
-    down: Span,
-    across: Span,
+    rowspan: Span,
+    colspan: Span,
 )
-    requires { ⌜ (OnPlane (now weights) rows cols cell) × (Nearby rows cols cell down across) ⌝ }
-    ensures { λ _. ⌜ after weights ≡ lowered (flat rows cols) (numberOf cols cell) (before weights) ⌝ }
+    requires { ⌜ (OnPlane (now weights) rows cols cell) × (Nearby rows cols cell rowspan colspan) ⌝ }
+    ensures { λ _. ⌜ after weights ≡ lowered (flat rows cols) (entryOf cols cell) (before weights) ⌝ }
 {
-    let mut row = down.0;
-    while row < down.1 {
-        let from = row * cols + across.0;
-        let to = row * cols + across.1;
-        lower_row(&mut weights[from..to], cell, row, across.0);
+    let mut row = rowspan.0;
+    while row < rowspan.1 {
+        let from = row * cols + colspan.0;
+        let to = row * cols + colspan.1;
+        lower_row(&mut weights[from..to], cell, row, colspan.0);
         row += 1;
     }
 }

@@ -22,8 +22,8 @@ use Rattle.rules.specs.declared.SetAnswer.{SetAnswer}
 use Rattle.rules.specs.declared.SetAnswer.the-variants as SetAnswer·
 use Rattle.rules.specs.declared.Verdict.{Verdict}
 use Rattle.rules.specs.declared.Verdict.the-variants as Verdict·
-use Rattle.rules.specs.declared.Number.{Number}
-use Rattle.rules.specs.declared.Number.the-variants as Number·
+use Rattle.rules.specs.declared.CountAnswer.{CountAnswer}
+use Rattle.rules.specs.declared.CountAnswer.the-variants as CountAnswer·
 use Rattle.rules.specs.declared.FractionAnswer.{FractionAnswer}
 use Rattle.rules.specs.declared.FractionAnswer.the-variants as FractionAnswer·
 use Rattle.rules.specs.declared.LayAnswer.{LayAnswer}
@@ -111,15 +111,15 @@ verdictLeft (Verdict·.Refused n) out = out
 abbrev pub TellsVerdict : Verdict → List ℕ → ℕ → List ℕ → Type 0
 TellsVerdict answer out = Gives (verdictNumber answer) (verdictLeft answer out)
 
-abbrev pub countNumber : Number → ℕ
-countNumber (Number·.Is k) = 0
-countNumber (Number·.Refused n) = n
+abbrev pub countNumber : CountAnswer → ℕ
+countNumber (CountAnswer·.Is k) = 0
+countNumber (CountAnswer·.Refused n) = n
 
-abbrev pub countLeft : Number → List ℕ → List ℕ
-countLeft (Number·.Is k) out = put out 0 k
-countLeft (Number·.Refused n) out = out
+abbrev pub countLeft : CountAnswer → List ℕ → List ℕ
+countLeft (CountAnswer·.Is k) out = put out 0 k
+countLeft (CountAnswer·.Refused n) out = out
 
-abbrev pub TellsCount : Number → List ℕ → ℕ → List ℕ → Type 0
+abbrev pub TellsCount : CountAnswer → List ℕ → ℕ → List ℕ → Type 0
 TellsCount answer out = Gives (countNumber answer) (countLeft answer out)
 
 abbrev pub fractionNumber : FractionAnswer → ℕ

@@ -65,7 +65,7 @@ pub fn set_given(answer: SetAnswer, out: &mut [u32]) -> u32
     }
 }
 
-pub fn told(answer: Verdict, out: &mut [u32]) -> u32
+pub fn judged(answer: Verdict, out: &mut [u32]) -> u32
     ensures { λ r. ⌜ TellsVerdict answer (before out) r (after out) ⌝ }
 {
     match answer {

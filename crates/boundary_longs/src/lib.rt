@@ -3,9 +3,9 @@ ghost use Rattle.rules.specs.Promises.{before, after};
 ghost use Rattle.boundary.specs.Boundary.{TellsCount, TellsFraction, TellsSpans, TellsTiles, TellsDeadEnd};
 use boundary_slots::put_float;
 use boundary_slots::put_long;
+use rules::CountAnswer;
 use rules::DeadEnd;
 use rules::FractionAnswer;
-use rules::Number;
 use rules::SpanAnswer;
 use rules::TileNumber;
 
@@ -39,15 +39,15 @@ pub fn scanned(answer: DeadEnd, out: &mut [u64]) -> u32
     }
 }
 
-pub fn counted(answer: Number, out: &mut [u64]) -> u32
+pub fn counted(answer: CountAnswer, out: &mut [u64]) -> u32
     ensures { λ r. ⌜ TellsCount answer (before out) r (after out) ⌝ }
 {
     match answer {
-        Number::Is(k) => {
+        CountAnswer::Is(k) => {
             put_long(out, 0, k as u64);
             0
         }
-        Number::Refused(n) => n as u32,
+        CountAnswer::Refused(n) => n as u32,
     }
 }
 

@@ -5,7 +5,7 @@ use mathlib.Core.Path.{_≡_}
 use mathlib.Core.Bool.{Bool}
 use mathlib.Core.List.{List}
 use Rattle.base.proofs.Chain.{coincide}
-use Rattle.rules.specs.Tests.{boardSides, sampleSides, hasLength, tileNumber, wholeTiles, colourCount}
+use Rattle.rules.specs.Tests.{boardSides, sampleSides, hasLength, tileNumberFits, wholeTiles, colourCount}
 use Rattle.rules.specs.Tiles.{tilesCounted}
 use Rattle.rules.specs.declared.TileNumber.{TileNumber}
 
@@ -19,7 +19,7 @@ sample-sides rows cols p q = coincide p q
 pub have-length : {A : Type 0} (plane : List A) (n : ℕ) {r s : Bool} → r ≡ hasLength plane n → s ≡ hasLength plane n → r ≡ s
 have-length plane n p q = coincide p q
 
-pub tile-number-fits : (n : ℕ) {r s : Bool} → r ≡ tileNumber n → s ≡ tileNumber n → r ≡ s
+pub tile-number-fits : (n : ℕ) {r s : Bool} → r ≡ tileNumberFits n → s ≡ tileNumberFits n → r ≡ s
 tile-number-fits n p q = coincide p q
 
 pub whole-tiles : (tiles : List ℕ) {r s : Bool} → r ≡ wholeTiles tiles → s ≡ wholeTiles tiles → r ≡ s

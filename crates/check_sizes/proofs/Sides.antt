@@ -12,7 +12,7 @@ use Rattle.base.specs.Counting.{within}
 use Rattle.base.proofs.Bools.{and-left, and-right}
 use Rattle.base.proofs.Numbers.{within-low, within-high, mul-le}
 use Rattle.base.proofs.Counted.{every-at}
-use Rattle.rules.specs.Tests.{boardSides, hasLength, tilesIn, tileNumber, wholeTiles, colourCount, noneAbove, piecesStored, entryUpTo, pieceStored}
+use Rattle.rules.specs.Tests.{boardSides, hasLength, tilesIn, tileNumberFits, wholeTiles, colourCount, noneAbove, piecesStored, entryUpTo, pieceStored}
 
 -- the sides of a board are 1 to 64
 pub board-rows : (rows cols : ℕ) → boardSides rows cols ≡ true → (1 ≤ rows) × (rows ≤ 64)
@@ -32,22 +32,22 @@ unfolding hasLength
 long plane n e = eqb-true (length plane) n e
 
 -- a number of tiles is 1 to 7,200
-pub tiles-least : (n : ℕ) → tileNumber n ≡ true → 1 ≤ n
-unfolding tileNumber
+pub tiles-least : (n : ℕ) → tileNumberFits n ≡ true → 1 ≤ n
+unfolding tileNumberFits
 tiles-least n e = within-low 1 7200 n e
 
-pub tiles-most : (n : ℕ) → tileNumber n ≡ true → n ≤ 7200
-unfolding tileNumber
+pub tiles-most : (n : ℕ) → tileNumberFits n ≡ true → n ≤ 7200
+unfolding tileNumberFits
 tiles-most n e = within-high 1 7200 n e
 
 -- a tile list is whole tiles
-pub whole-number : (tiles : List ℕ) → wholeTiles tiles ≡ true → tileNumber (tilesIn tiles) ≡ true
+pub whole-number : (tiles : List ℕ) → wholeTiles tiles ≡ true → tileNumberFits (tilesIn tiles) ≡ true
 unfolding wholeTiles
-whole-number tiles e = and-right (eqb (length tiles % 9) 0) (tileNumber (tilesIn tiles)) e
+whole-number tiles e = and-right (eqb (length tiles % 9) 0) (tileNumberFits (tilesIn tiles)) e
 
 pub whole-length : (tiles : List ℕ) → wholeTiles tiles ≡ true → tilesIn tiles * 9 ≡ length tiles
 unfolding wholeTiles
-whole-length tiles e = let z : length tiles % 9 ≡ 0 = eqb-true (length tiles % 9) 0 (and-left (eqb (length tiles % 9) 0) (tileNumber (tilesIn tiles)) e) in omega arith
+whole-length tiles e = let z : length tiles % 9 ≡ 0 = eqb-true (length tiles % 9) 0 (and-left (eqb (length tiles % 9) 0) (tileNumberFits (tilesIn tiles)) e) in omega arith
 
 -- a colour count is 1 to 30
 pub count-least : (count : ℕ) → colourCount count ≡ true → 1 ≤ count

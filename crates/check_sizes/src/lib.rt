@@ -3,7 +3,7 @@ ghost use mathlib.Core.Path.{_≡_};
 ghost use mathlib.Core.Bool.{true};
 ghost use Prim.Native.Nat.{_*_};
 ghost use Rattle.base.specs.Counting.{within};
-ghost use Rattle.rules.specs.Tests.{boardSides, sampleSides, hasLength, tileNumber, wholeTiles, colourCount};
+ghost use Rattle.rules.specs.Tests.{boardSides, sampleSides, hasLength, tileNumberFits, wholeTiles, colourCount};
 ghost use Rattle.rules.specs.Tiles.{tilesCounted};
 use rules::TileNumber;
 
@@ -60,7 +60,7 @@ pub fn floats_have_length(plane: &[f64], n: usize) -> bool
 }
 
 pub fn tile_number_fits(n: usize) -> bool
-    ensures { λ r. ⌜ r ≡ tileNumber n ⌝ }
+    ensures { λ r. ⌜ r ≡ tileNumberFits n ⌝ }
 {
     within_bounds(1, rules::MAX_TILES, n)
 }

@@ -12,20 +12,20 @@ use Rattle.base.proofs.Bools.{and-both, and-no-left, and-no-right, pick-yes, pi
 use Rattle.base.proofs.Numbers.{cell-lt, row-of, col-of}
 use Rattle.base.proofs.Tabled.{getD-tab}
 use Rattle.base.proofs.Regions.{is-between, not-before, not-after}
-use Rattle.rules.specs.Grid.{cellAt, numberOf}
+use Rattle.rules.specs.Grid.{cellAt, entryOf}
 use Rattle.rules.specs.Places.{newRows, newCols, copiedCell, copied}
 use Rattle.rules.specs.declared.Pads.{Pads}
 use Rattle.copy_checks.proofs.Copied.{old-place}
 
 module _ {A : Type 0} (none fill : A) (plane : List A) (rows cols : ℕ) (p : Pads) where
   cell-at : (r c : ℕ) → r < newRows rows p → c < newCols cols p
-      → getD (copied none fill plane rows cols p) (numberOf (newCols cols p) (cellAt r c)) none ≡ copiedCell none fill plane rows cols p r c
+      → getD (copied none fill plane rows cols p) (entryOf (newCols cols p) (cellAt r c)) none ≡ copiedCell none fill plane rows cols p r c
   unfolding copied
-  cell-at r c h k = getD-tab _ _ (numberOf (newCols cols p) (cellAt r c)) none (cell-lt h k) ∙ rw (row-of r k, col-of r k)
+  cell-at r c h k = getD-tab _ _ (entryOf (newCols cols p) (cellAt r c)) none (cell-lt h k) ∙ rw (row-of r k, col-of r k)
 
   pub moved : (i j : ℕ) → i < rows → j < cols
-      → getD (copied none fill plane rows cols p) (numberOf (newCols cols p) (cellAt (i + p .left) (j + p .top))) none
-      ≡ getD plane (numberOf cols (cellAt i j)) none
+      → getD (copied none fill plane rows cols p) (entryOf (newCols cols p) (cellAt (i + p .left) (j + p .top))) none
+      ≡ getD plane (entryOf cols (cellAt i j)) none
   unfolding copiedCell
   moved i j h k =
       cell-at (i + p .left) (j + p .top) (omega arith) (omega arith)
@@ -38,7 +38,7 @@ module _ {A : Type 0} (none fill : A) (plane : List A) (rows cols : ℕ) (p : Pa
 
   pub new-cell : (r c : ℕ) → r < newRows rows p → c < newCols cols p
       → ((r < p .left) ⊎ (p .left + rows ≤ r)) ⊎ ((c < p .top) ⊎ (p .top + cols ≤ c))
-      → getD (copied none fill plane rows cols p) (numberOf (newCols cols p) (cellAt r c)) none ≡ fill
+      → getD (copied none fill plane rows cols p) (entryOf (newCols cols p) (cellAt r c)) none ≡ fill
   unfolding copiedCell
   new-cell r c h k out =
       cell-at r c h k

@@ -21,7 +21,7 @@ use Rattle.base.proofs.Tabled.{length-tab, getD-tab, is-tab}
 use Rattle.base.proofs.Sweep.{Sweep, sweep-all, length-part, part-at}
 use Rattle.base.proofs.Regions.{RowsDone, region-start, region-turn, region-done, region-is, row-room}
 use Rattle.rules.specs.Bounds.{maxBoardSide, maxCells}
-use Rattle.rules.specs.Grid.{cellAt, numberOf}
+use Rattle.rules.specs.Grid.{cellAt, entryOf}
 use Rattle.rules.specs.Places.{newRows, newCols, copiedCell, copied}
 use Rattle.rules.specs.declared.Pads.{Pads}
 use Rattle.check_sizes.proofs.Sides.{board-rows, board-cols, few-cells}
@@ -52,14 +52,14 @@ Laying none plane larger rows cols left top wide w i =
 -- row i of the plane, and its part of w, lie inside these and have one length
 pub record NextRow {A : Type 0} (plane w : List A) (cols left top wide i : ℕ) : Type 0 where
   pub read-in : i * cols + cols ≤ length plane
-  pub laid-in : numberOf wide (cellAt (left + i) top) + cols ≤ length w
-  pub one-length : let from = numberOf wide (cellAt (left + i) top) in
+  pub laid-in : entryOf wide (cellAt (left + i) top) + cols ≤ length w
+  pub one-length : let from = entryOf wide (cellAt (left + i) top) in
       length (take (from + cols - from) (drop from w)) ≡ length (take (i * cols + cols - i * cols) (drop (i * cols) plane))
 
 module _ {A : Type 0} {none : A} {plane larger : List A} {rows cols left top : ℕ} where
   pub laid-start : {p : Pads} → Sized rows cols p (length plane) (length larger) → left + rows ≤ newRows rows p → top + cols ≤ newCols cols p
       → Laying none plane larger rows cols left top (newCols cols p) larger 0
-  laid-start {p} s down across = (fit, rw add-zero (region-start none _ _ _ _ _ _ larger (fit .region)))
+  laid-start {p} s rowwise colwise = (fit, rw add-zero (region-start none _ _ _ _ _ _ larger (fit .region)))
     where
       fit : RowsFit plane larger rows cols left top (newCols cols p)
       fit =
@@ -67,10 +67,10 @@ module _ {A : Type 0} {none : A} {plane larger : List A} {rows cols left top : �
             region =
                 record {
                   wide = board-cols (newRows rows p) (newCols cols p) (s .new-sides) .0;
-                  down = omega arith;
-                  across = omega arith;
-                  ends = across;
-                  room = rw (s .room-is) (mul-le-mul-right (newCols cols p) down);
+                  rowwise = omega arith;
+                  colwise = omega arith;
+                  ends = colwise;
+                  room = rw (s .room-is) (mul-le-mul-right (newCols cols p) rowwise);
                 };
             held = s .held-is;
             low = omega (arith, board-rows (newRows rows p) (newCols cols p) (s .new-sides));
@@ -88,7 +88,7 @@ module _ {A : Type 0} {none : A} {plane larger : List A} {rows cols left top : �
         }
       where
         from : ℕ
-        from = numberOf wide (cellAt (left + i) top)
+        from = entryOf wide (cellAt (left + i) top)
 
         read-in : i * cols + cols ≤ length plane
         read-in = omega (arith, rows-apart cols h, d .0 .held)
@@ -98,12 +98,12 @@ module _ {A : Type 0} {none : A} {plane larger : List A} {rows cols left top : �
 
     -- its part was lent to a function that left the row there
     pub laid-turn : {ys : List A} → i < rows
-        → let from = numberOf wide (cellAt (left + i) top) in
+        → let from = entryOf wide (cellAt (left + i) top) in
         let start = i * cols in
         ys ≡ take (start + cols - start) (drop start plane)
         → Laying none plane larger rows cols left top wide (take from w ++ (ys ++ drop (from + cols - from) (drop from w))) (i + 1)
     laid-turn h e =
-        let from = numberOf wide (cellAt (left + i) top) in
+        let from = entryOf wide (cellAt (left + i) top) in
         let start = i * cols in
         let row = take (start + cols - start) (drop start plane) in (
           d .0,

@@ -9,7 +9,7 @@ use Rattle.base.specs.Regions.{overRegion}
 use Rattle.base.specs.Refusal.{Checks, _unless_, _then_}
 use Rattle.rules.specs.Bounds.{SHAPE, LENGTH}
 use Rattle.rules.specs.Tests.{boardSides}
-use Rattle.rules.specs.Grid.{cellAt, numberOf}
+use Rattle.rules.specs.Grid.{cellAt, entryOf}
 use Rattle.rules.specs.Places.{newRows, newCols}
 use Rattle.rules.specs.declared.Pads.{Pads}
 
@@ -30,7 +30,7 @@ pub record Sized (rows cols : ℕ) (p : Pads) (held room : ℕ) : Type 0 where
 
 -- what the cell (r, c) of a larger plane comes to hold, whatever it held: old cell (i, j) is laid at (i + left, j + top)
 abbrev pub laidCell : {A : Type 0} → A → List A → ℕ → ℕ → ℕ → ℕ → ℕ → A → A
-laidCell none plane cols left top r c held = getD plane (numberOf cols (cellAt (r - left) (c - top))) none
+laidCell none plane cols left top r c held = getD plane (entryOf cols (cellAt (r - left) (c - top))) none
 
 -- the larger plane where the rows are laid. A region's top and bottom are rows, its left and right columns; of the pads, as in document 01,
 -- left belongs to the rows and top to the columns

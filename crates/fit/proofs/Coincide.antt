@@ -12,7 +12,7 @@ use Rattle.rules.specs.declared.World.{World}
 use Rattle.rules.specs.declared.Cell.{Cell}
 use Rattle.rules.specs.declared.Offset.{Offset}
 use Rattle.rules.specs.declared.Listing.{Listing}
-use Rattle.rules.specs.declared.Number.{Number}
+use Rattle.rules.specs.declared.CountAnswer.{CountAnswer}
 use Rattle.rules.specs.declared.FractionAnswer.{FractionAnswer}
 
 pub pieces-refused : (pieces : List ℕ) (rows cols : ℕ) (tiles : List ℕ) (count : ℕ) {r s : ℕ} → r ≡ refusal (piecesChecks pieces rows cols tiles count)
@@ -23,7 +23,7 @@ pub compute-viable-tiles-at-position : (kind : Kind) (pieces : List ℕ) (rows c
     → r ≡ listing kind pieces rows cols tiles count w o → s ≡ listing kind pieces rows cols tiles count w o → r ≡ s
 compute-viable-tiles-at-position kind pieces rows cols tiles count w o = coincide
 
-pub count-fitting : (kind : Kind) (pieces : List ℕ) (rows cols : ℕ) (tiles : List ℕ) (count : ℕ) (start : Cell) {r s : Number}
+pub count-fitting : (kind : Kind) (pieces : List ℕ) (rows cols : ℕ) (tiles : List ℕ) (count : ℕ) (start : Cell) {r s : CountAnswer}
     → r ≡ regionCount kind pieces rows cols tiles count start → s ≡ regionCount kind pieces rows cols tiles count start → r ≡ s
 count-fitting kind pieces rows cols tiles count start = coincide
 

@@ -10,9 +10,9 @@ ghost use Rattle.rules.specs.Fit.{piecesChecks, listing, regionCount};
 ghost use Rattle.rules.specs.Scores.{fraction, fractionChecks, fractionAt};
 ghost use Rattle.rules.specs.Promises.{before};
 use rules::Cell;
+use rules::CountAnswer;
 use rules::FractionAnswer;
 use rules::Listing;
-use rules::Number;
 use rules::Offset;
 use rules::World;
 
@@ -39,16 +39,16 @@ pub fn compute_viable_tiles_at_position(
     cols: usize,
     tiles: &[u8],
     count: u32,
-    position: World,
+    place: World,
     offset: Offset,
 ) -> Listing
-    ensures { λ r. ⌜ r ≡ listing flat (before pieces) rows cols (before tiles) count position offset ⌝ }
+    ensures { λ r. ⌜ r ≡ listing flat (before pieces) rows cols (before tiles) count place offset ⌝ }
 {
     let refused = pieces_refused(pieces, rows, cols, tiles, count);
     if refused != 0 {
         return Listing::Refused(refused);
     }
-    let misplaced = places::place_refused(rows, cols, position, offset);
+    let misplaced = places::place_refused(rows, cols, place, offset);
     if misplaced != 0 {
         return Listing::Refused(misplaced);
     }
@@ -58,7 +58,7 @@ pub fn compute_viable_tiles_at_position(
         cols,
         tiles,
         count,
-        places::cell_of(position, offset),
+        places::cell_of(place, offset),
     )
 }
 
@@ -76,17 +76,17 @@ pub fn count_fitting(
     tiles: &[u8],
     count: u32,
     start: Cell,
-) -> Number
+) -> CountAnswer
     ensures { λ r. ⌜ r ≡ regionCount flat (before pieces) rows cols (before tiles) count start ⌝ }
 {
     let refused = pieces_refused(pieces, rows, cols, tiles, count);
     if refused != 0 {
-        return Number::Refused(refused);
+        return CountAnswer::Refused(refused);
     }
     if !on_grid(rows, cols, start) {
-        return Number::Refused(rules::PLACE);
+        return CountAnswer::Refused(rules::PLACE);
     }
-    Number::Is(fit_windows::fit_count_at(pieces, rows, cols, tiles, start.0, start.1) as usize)
+    CountAnswer::Is(fit_windows::fit_count_at(pieces, rows, cols, tiles, start.0, start.1) as usize)
 }
 
 fn fraction_refused(counts: &[u32], rows: usize, cols: usize, tiles: usize, cell: Cell) -> u8

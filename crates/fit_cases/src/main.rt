@@ -2,9 +2,9 @@
 // program's example.
 use libc::STDOUT_FILENO;
 use rules::Cell;
+use rules::CountAnswer;
 use rules::FractionAnswer;
 use rules::Listing;
-use rules::Number;
 use rules::Offset;
 use rules::World;
 
@@ -46,14 +46,14 @@ fn colours(bits: u32) {
     text(b"\n");
 }
 
-fn list(pieces: &[u32], rows: usize, cols: usize, tiles: &[u8], count: u32, position: World) {
+fn list(pieces: &[u32], rows: usize, cols: usize, tiles: &[u8], count: u32, place: World) {
     let answer = fit::compute_viable_tiles_at_position(
         pieces,
         rows,
         cols,
         tiles,
         count,
-        position,
+        place,
         Offset(0, 0),
     );
     match answer {
@@ -65,12 +65,12 @@ fn list(pieces: &[u32], rows: usize, cols: usize, tiles: &[u8], count: u32, posi
 fn count(pieces: &[u32], rows: usize, cols: usize, tiles: &[u8], count: u32, start: Cell) {
     let answer = fit::count_fitting(pieces, rows, cols, tiles, count, start);
     match answer {
-        Number::Is(n) => {
+        CountAnswer::Is(n) => {
             text(b" fits ");
             digit(n);
             text(b"\n");
         }
-        Number::Refused(n) => refused(n),
+        CountAnswer::Refused(n) => refused(n),
     }
 }
 

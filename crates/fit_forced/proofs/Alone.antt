@@ -13,7 +13,7 @@ use Rattle.base.specs.Counting.{pick}
 use Rattle.base.proofs.Bools.{by-test, and-right, and-no-left, and-no-right, pick-no}
 use Rattle.rules.specs.Tests.{onBoard}
 use Rattle.rules.specs.Places.{cellOf}
-use Rattle.rules.specs.Grid.{numberOf, Kind, laidOn}
+use Rattle.rules.specs.Grid.{entryOf, Kind, laidOn}
 use Rattle.rules.specs.Fit.{lists}
 use Rattle.rules.specs.Forced.{admits, listedAt, only, forcesOne, isForced, forcedThere}
 use Rattle.rules.specs.declared.World.{World}
@@ -32,7 +32,7 @@ module _ (kind : Kind) (pieces : List ℕ) (rows cols : ℕ) (tiles : List ℕ) 
 
   -- the cell of the place, and the colours listed there
   abbrev at : ℕ
-  at = numberOf cols (cellOf w o)
+  at = entryOf cols (cellOf w o)
 
   abbrev here : List ℕ
   here = listedAt (kind rows cols) tiles pieces count at
@@ -61,7 +61,7 @@ module _ (kind : Kind) (pieces : List ℕ) (rows cols : ℕ) (tiles : List ℕ) 
   lone false false t e = eqb-true t 0 (not-false (eqb t 0) (sym e))
 
   pub on-board : (cell : Cell) → admits b w ≡ true → onBoard rows cols w o ≡ true → cell ≡ cellOf w o
-      → onlyAt (kind rows cols) tiles pieces count (numberOf cols cell) ≡ colour
+      → onlyAt (kind rows cols) tiles pieces count (entryOf cols cell) ≡ colour
   unfolding forcedColour
   on-board cell p q e = rw (e, is-one p q) (lone (laidOn pieces at) _ _ (one-only count (lists (kind rows cols) tiles pieces at)))
 

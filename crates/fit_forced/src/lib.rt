@@ -10,11 +10,11 @@ ghost use Rattle.base.specs.Whole.{withinZ};
 ghost use Rattle.base.specs.Refusal.{refusal};
 ghost use Rattle.rules.specs.Bounds.{addedRoom, minCoordinate, maxCoordinate};
 ghost use Rattle.rules.specs.Tests.{onWall};
-ghost use Rattle.rules.specs.Grid.{numberOf, flat};
+ghost use Rattle.rules.specs.Grid.{entryOf, flat};
 ghost use Rattle.rules.specs.Forced.{neighbour, admits, boundsFit, forcedRound, positionsOf, forcedChecks, forcedNeighbours};
 ghost use Rattle.rules.specs.Promises.{before};
 ghost use Rattle.rules.specs.declared.ForcedPosition.{ForcedPosition};
-ghost use Rattle.fit_pattern.specs.Ready.{OnGrid};
+ghost use Rattle.fit_pattern.specs.Ready.{CellOn};
 ghost use Rattle.fit_windows.specs.Ready.{Ready};
 ghost use Rattle.fit_forced.specs.Round.{Roundable, roundOrder, onlyAt, forcedColour, withForced};
 use rules::Cell;
@@ -45,23 +45,23 @@ fn beside(coordinate: i32, step: usize) -> i32
     coordinate + step as i32 - 1
 }
 
-// The place d of the 3x3 round w. It may lie off the wall, where no cell has its index.
-fn neighbour_at(w: World, d: usize) -> World
-    requires { ⌜ onWall w ≡ true ⌝ }
+// The place d of the 3x3 round a place. It may lie off the wall, where no cell has its index.
+fn neighbour_at(place: World, d: usize) -> World
+    requires { ⌜ onWall place ≡ true ⌝ }
     requires { ⌜ d < 9 ⌝ }
-    ensures { λ r. ⌜ r ≡ neighbour w d ⌝ }
+    ensures { λ r. ⌜ r ≡ neighbour place d ⌝ }
 {
-    World(beside(w.0, d / 3), beside(w.1, d % 3))
+    World(beside(place.0, d / 3), beside(place.1, d % 3))
 }
 
 // Not outside the box, if one is given.
-fn admitted(bounds: GenerationBounds, w: World) -> bool
-    ensures { λ r. ⌜ r ≡ admits bounds w ⌝ }
+fn admitted(bounds: GenerationBounds, place: World) -> bool
+    ensures { λ r. ⌜ r ≡ admits bounds place ⌝ }
 {
     let GenerationBounds::Within(corners) = bounds else {
         return true;
     };
-    place_boxes::in_box(corners, w)
+    place_boxes::in_box(corners, place)
 }
 
 // The corners of the box, if one is given, are on the wall.
@@ -85,8 +85,8 @@ fn only_colour_at(
     cell: Cell,
 ) -> u32
     requires { ⌜ Ready (now pieces) rows cols (now tiles) count ⌝ }
-    requires { ⌜ OnGrid rows cols (cell .0) (cell .1) ⌝ }
-    ensures { λ r. ⌜ r ≡ onlyAt (flat rows cols) (before tiles) (before pieces) count (numberOf cols cell) ⌝ }
+    requires { ⌜ CellOn rows cols (cell .0) (cell .1) ⌝ }
+    ensures { λ r. ⌜ r ≡ onlyAt (flat rows cols) (before tiles) (before pieces) count (entryOf cols cell) ⌝ }
 {
     let at = cell.0 * cols + cell.1;
     if pieces[at] > rules::BARE_PIECE {
@@ -106,20 +106,20 @@ fn forced_colour(
     cols: usize,
     tiles: &[u8],
     count: u32,
-    w: World,
+    place: World,
     offset: Offset,
     bounds: GenerationBounds,
 ) -> u32
     requires { ⌜ Ready (now pieces) rows cols (now tiles) count ⌝ }
-    ensures { λ r. ⌜ r ≡ forcedColour flat (before pieces) rows cols (before tiles) count w offset bounds ⌝ }
+    ensures { λ r. ⌜ r ≡ forcedColour flat (before pieces) rows cols (before tiles) count place offset bounds ⌝ }
 {
-    if !admitted(bounds, w) {
+    if !admitted(bounds, place) {
         return 0;
     }
-    if !places::on_board(rows, cols, w, offset) {
+    if !places::on_board(rows, cols, place, offset) {
         return 0;
     }
-    let cell = places::cell_of(w, offset);
+    let cell = places::cell_of(place, offset);
     only_colour_at(pieces, rows, cols, tiles, count, cell)
 }
 
@@ -138,9 +138,9 @@ fn no_positions() -> ForcedPositions
 }
 
 // One position more, unless its colour is 0.
-fn with_forced(found: ForcedPositions, w: World, colour: u32) -> ForcedPositions
+fn with_forced(found: ForcedPositions, place: World, colour: u32) -> ForcedPositions
     requires { ⌜ found .len < addedRoom ⌝ }
-    ensures { λ r. ⌜ ((l : List ForcedPosition) → found ≡ positionsOf l → r ≡ positionsOf (withForced l w colour)) ⌝ }
+    ensures { λ r. ⌜ ((l : List ForcedPosition) → found ≡ positionsOf l → r ≡ positionsOf (withForced l place colour)) ⌝ }
 {
     if colour == 0 {
         return found;
@@ -148,7 +148,7 @@ fn with_forced(found: ForcedPositions, w: World, colour: u32) -> ForcedPositions
     let n = found.len;
     let mut entries = found.entries;
     entries[n] = ForcedPosition {
-        coordinates: w,
+        coordinates: place,
         colour: colour,
     };
     ForcedPositions {
@@ -164,17 +164,17 @@ pub fn forced_round(
     cols: usize,
     tiles: &[u8],
     count: u32,
-    position: World,
+    place: World,
     offset: Offset,
     bounds: GenerationBounds,
 ) -> ForcedPositions
-    requires { ⌜ Roundable (now pieces) rows cols (now tiles) count position ⌝ }
-    ensures { λ r. ⌜ r ≡ positionsOf (forcedRound flat (before pieces) rows cols (before tiles) count position offset bounds) ⌝ }
+    requires { ⌜ Roundable (now pieces) rows cols (now tiles) count place ⌝ }
+    ensures { λ r. ⌜ r ≡ positionsOf (forcedRound flat (before pieces) rows cols (before tiles) count place offset bounds) ⌝ }
 {
     let mut found = no_positions();
     let mut i = 0;
     while i < rules::ADDED_ROOM {
-        let there = neighbour_at(position, round_place(i));
+        let there = neighbour_at(place, round_place(i));
         let colour = forced_colour(pieces, rows, cols, tiles, count, there, offset, bounds);
         found = with_forced(found, there, colour);
         i += 1;
@@ -189,17 +189,17 @@ pub fn forced_refused(
     cols: usize,
     tiles: &[u8],
     count: u32,
-    position: World,
+    place: World,
     offset: Offset,
     bounds: GenerationBounds,
 ) -> u8
-    ensures { λ r. ⌜ r ≡ refusal (forcedChecks (before pieces) rows cols (before tiles) count position offset bounds) ⌝ }
+    ensures { λ r. ⌜ r ≡ refusal (forcedChecks (before pieces) rows cols (before tiles) count place offset bounds) ⌝ }
 {
     let refused = fit::pieces_refused(pieces, rows, cols, tiles, count);
     if refused != 0 {
         return refused;
     }
-    let misplaced = places::place_refused(rows, cols, position, offset);
+    let misplaced = places::place_refused(rows, cols, place, offset);
     if misplaced != 0 {
         return misplaced;
     }
@@ -216,13 +216,13 @@ pub fn detect_forced_positions(
     cols: usize,
     tiles: &[u8],
     count: u32,
-    position: World,
+    place: World,
     offset: Offset,
     bounds: GenerationBounds,
 ) -> ForcedAnswer
-    ensures { λ r. ⌜ r ≡ forcedNeighbours flat (before pieces) rows cols (before tiles) count position offset bounds ⌝ }
+    ensures { λ r. ⌜ r ≡ forcedNeighbours flat (before pieces) rows cols (before tiles) count place offset bounds ⌝ }
 {
-    let refused = forced_refused(pieces, rows, cols, tiles, count, position, offset, bounds);
+    let refused = forced_refused(pieces, rows, cols, tiles, count, place, offset, bounds);
     if refused != 0 {
         let none = no_positions();
         return ForcedAnswer {
@@ -230,7 +230,7 @@ pub fn detect_forced_positions(
             found: none,
         };
     }
-    let found = forced_round(pieces, rows, cols, tiles, count, position, offset, bounds);
+    let found = forced_round(pieces, rows, cols, tiles, count, place, offset, bounds);
     ForcedAnswer {
         refused: 0,
         found: found,

@@ -83,14 +83,14 @@ fn print_cell(cell: Cell, weights: &[u32; 9]) {
     text(b"\n");
 }
 
-fn round(pieces: &[u32; 9], position: World, offset: Offset, bounds: GenerationBounds) {
+fn round(pieces: &[u32; 9], place: World, offset: Offset, bounds: GenerationBounds) {
     let answer = fit_forced::detect_forced_positions(
         pieces,
         3,
         3,
         &CHEQUER,
         2,
-        position,
+        place,
         offset,
         bounds,
     );

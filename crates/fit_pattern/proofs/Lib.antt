@@ -1,3 +1,3 @@
-pub mod Words
+pub mod Packed
 pub mod Flat
 pub mod Windows

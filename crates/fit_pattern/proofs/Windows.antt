@@ -14,19 +14,19 @@ use Rattle.base.specs.Tables.{tab}
 use Rattle.base.proofs.Numbers.{cell-lt, mul-le, lt-or-le}
 use Rattle.base.proofs.Tabled.{getD-tab}
 use Rattle.rules.specs.Bounds.{maxCells}
-use Rattle.rules.specs.Grid.{cellAt, numberOf, colourOn}
+use Rattle.rules.specs.Grid.{cellAt, entryOf, colourOn}
 use Rattle.rules.specs.declared.Cell.{Cell}
-use Rattle.fit_pattern.specs.Ready.{Readable, OnGrid}
-use Rattle.fit_pattern.specs.Words.{shownBy, maskOf, Masked}
+use Rattle.fit_pattern.specs.Ready.{Readable, CellOn}
+use Rattle.fit_pattern.specs.Packed.{shownBy, maskOf, Masked}
 
 pub record Inside (pieces : List ℕ) (cols : ℕ) (cell : Cell) : Type 0 where
-  pub below : numberOf cols cell < length pieces
+  pub below : entryOf cols cell < length pieces
   pub few : length pieces ≤ maxCells
 
-pub inside : {pieces : List ℕ} {rows cols r c : ℕ} → Readable pieces rows cols → OnGrid rows cols r c → Inside pieces cols (cellAt r c)
+pub inside : {pieces : List ℕ} {rows cols r c : ℕ} → Readable pieces rows cols → CellOn rows cols r c → Inside pieces cols (cellAt r c)
 inside {pieces} {rows} {cols} board on =
     let few : rows * cols ≤ maxCells = mul-le (board .tall) (board .wide) in
-    record { below = omega (arith, cell-lt (on .down) (on .across), board .plane); few = omega (arith, board .plane) }
+    record { below = omega (arith, cell-lt (on .rowwise) (on .colwise), board .plane); few = omega (arith, board .plane) }
 
 pub bare-past : (pieces : List ℕ) (n k : ℕ) → length pieces ≡ n → k ≡ n → 0 ≡ colourOn pieces k
 bare-past pieces n k e q =

@@ -14,6 +14,6 @@ pub record Readable (pieces : List ℕ) (rows cols : ℕ) : Type 0 where
   pub most : (k : ℕ) → k < length pieces → getD pieces k 0 ≤ maxColours + 1
 
 -- a cell of the grid
-pub record OnGrid (rows cols row col : ℕ) : Type 0 where
-  pub down : row < rows
-  pub across : col < cols
+pub record CellOn (rows cols row col : ℕ) : Type 0 where
+  pub rowwise : row < rows
+  pub colwise : col < cols

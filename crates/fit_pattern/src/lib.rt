@@ -6,16 +6,16 @@ ghost use lib.Dec.{eqb};
 ghost use lib.ListN.{length};
 ghost use Rattle.base.specs.Counting.{every};
 ghost use Rattle.base.specs.Tables.{tab};
-ghost use Rattle.rules.specs.Grid.{flat, cellAt, numberOf, numberOrPast, colourOn};
+ghost use Rattle.rules.specs.Grid.{flat, cellAt, entryOf, entryOrPast, colourOn};
 ghost use Rattle.rules.specs.Fit.{pattern, fitsTile};
 ghost use Rattle.rules.specs.Promises.{before};
-ghost use Rattle.fit_pattern.specs.Ready.{Readable, OnGrid};
-ghost use Rattle.fit_pattern.specs.Words.{shownBy, cellsFrom, word, maskOf, Cells, Masked};
+ghost use Rattle.fit_pattern.specs.Ready.{Readable, CellOn};
+ghost use Rattle.fit_pattern.specs.Packed.{shownBy, cellsFrom, packed, maskOf, Cells, Masked};
 
 // The colour on the cell (r, c); 0 where it is bare or past the edge.
 fn colour_at(pieces: &[u32], rows: usize, cols: usize, r: usize, c: usize) -> u8
     requires { ⌜ Readable (now pieces) rows cols ⌝ }
-    ensures { λ x. ⌜ x ≡ colourOn (before pieces) (numberOrPast rows cols (cellAt r c)) ⌝ }
+    ensures { λ x. ⌜ x ≡ colourOn (before pieces) (entryOrPast rows cols (cellAt r c)) ⌝ }
 {
     if r >= rows {
         return 0;
@@ -35,8 +35,8 @@ pub fn window_at(
     col: usize,
 ) -> [u8; rules::TILE_CELLS]
     requires { ⌜ Readable (now pieces) rows cols ⌝ }
-    requires { ⌜ OnGrid rows cols row col ⌝ }
-    ensures { λ w. ⌜ w ≡ tab 9 (pattern (flat rows cols) (before pieces) (numberOf cols (cellAt row col))) ⌝ }
+    requires { ⌜ CellOn rows cols row col ⌝ }
+    ensures { λ w. ⌜ w ≡ tab 9 (pattern (flat rows cols) (before pieces) (entryOf cols (cellAt row col))) ⌝ }
 {
     let mut window = [0u8; rules::TILE_CELLS];
     let mut i = 0;
@@ -50,7 +50,7 @@ pub fn window_at(
 // Two, four and eight cells read as one number, the first the lowest: the compiler makes one load of the eight.
 fn pair(cells: &[u8], at: usize) -> u64
     requires { ⌜ at + 2 ≤ length (now cells) ⌝ }
-    ensures { λ r. ⌜ r ≡ word 2 (cellsFrom (before cells) at) ⌝ }
+    ensures { λ r. ⌜ r ≡ packed 2 (cellsFrom (before cells) at) ⌝ }
 {
     let low = cells[at] as u64;
     let high = cells[at + 1] as u64;
@@ -59,7 +59,7 @@ fn pair(cells: &[u8], at: usize) -> u64
 
 fn four(cells: &[u8], at: usize) -> u64
     requires { ⌜ at + 4 ≤ length (now cells) ⌝ }
-    ensures { λ r. ⌜ r ≡ word 4 (cellsFrom (before cells) at) ⌝ }
+    ensures { λ r. ⌜ r ≡ packed 4 (cellsFrom (before cells) at) ⌝ }
 {
     let low = pair(cells, at);
     let high = pair(cells, at + 2);
@@ -68,7 +68,7 @@ fn four(cells: &[u8], at: usize) -> u64
 
 fn eight(cells: &[u8], at: usize) -> u64
     requires { ⌜ at + 8 ≤ length (now cells) ⌝ }
-    ensures { λ r. ⌜ r ≡ word 8 (cellsFrom (before cells) at) ⌝ }
+    ensures { λ r. ⌜ r ≡ packed 8 (cellsFrom (before cells) at) ⌝ }
 {
     let low = four(cells, at);
     let high = four(cells, at + 4);

@@ -17,18 +17,18 @@ use Rattle.base.proofs.Bools.{never, and-left, and-right}
 use Rattle.base.proofs.Numbers.{cell-is, cell-lt, row-lt, col-lt, rows-apart}
 use Rattle.base.proofs.Counted.{first-holds, first-before}
 use Rattle.rules.specs.Answers.{deadEndAnswer}
-use Rattle.rules.specs.Grid.{Kind, numberOf, cellWith}
+use Rattle.rules.specs.Grid.{Kind, entryOf, cellWith}
 use Rattle.rules.specs.Forced.{listedAt, deadAt, scanChecks, deadEnd}
 use Rattle.rules.specs.declared.Cell.{Cell}
 use Rattle.rules.specs.declared.DeadEnd.the-variants.{At, Nowhere}
 use Rattle.bitset_colours.proofs.Colours.{length-zero}
-use Rattle.fit_pattern.specs.Ready.{OnGrid}
+use Rattle.fit_pattern.specs.Ready.{CellOn}
 
 -- a cell before another, row by row
 abbrev pub Before : Cell → Cell → Type 0
 Before i k = (i .0 < k .0) ⊎ ((i .0 ≡ k .0) × (i .1 < k .1))
 
-before-lt : (cols : ℕ) (i k : Cell) → i .1 < cols → Before i k → numberOf cols i < numberOf cols k
+before-lt : (cols : ℕ) (i k : Cell) → i .1 < cols → Before i k → entryOf cols i < entryOf cols k
 before-lt cols i k l b =
     ⊎-elim
     (λ (h : i .0 < k .0). omega (arith, rows-apart cols h))
@@ -55,14 +55,14 @@ module _ (kind : Kind) (pieces weights : List ℕ) (rows cols : ℕ) (tiles : Li
   dead = deadAt (kind rows cols) tiles pieces weights count
 
   pub record Qualifies (k : Cell) : Type 0 where
-    pub bare : getD pieces (numberOf cols k) 0 ≤ 1
-    pub heavy : 1 < getD weights (numberOf cols k) 0
-    pub unlisted : listedAt (kind rows cols) tiles pieces count (numberOf cols k) ≡ []
+    pub bare : getD pieces (entryOf cols k) 0 ≤ 1
+    pub heavy : 1 < getD weights (entryOf cols k) 0
+    pub unlisted : listedAt (kind rows cols) tiles pieces count (entryOf cols k) ≡ []
 
-  pub qualifies : (k : Cell) → dead (numberOf cols k) ≡ true → Qualifies k
+  pub qualifies : (k : Cell) → dead (entryOf cols k) ≡ true → Qualifies k
   unfolding deadAt
   qualifies k e =
-      let n : ℕ = numberOf cols k in
+      let n : ℕ = entryOf cols k in
       let both = and-left (not (ltb 1 (getD pieces n 0)) && ltb 1 (getD weights n 0)) _ e in
       record {
         bare = ltb-false 1 (getD pieces n 0) (not-true _ (and-left (not (ltb 1 (getD pieces n 0))) _ both));
@@ -70,14 +70,14 @@ module _ (kind : Kind) (pieces weights : List ℕ) (rows cols : ℕ) (tiles : Li
         unlisted = length-zero _ (eqb-true _ 0 (and-right (not (ltb 1 (getD pieces n 0)) && ltb 1 (getD weights n 0)) _ e));
       }
 
-  qualified : (k : Cell) → Qualifies k → dead (numberOf cols k) ≡ true
+  qualified : (k : Cell) → Qualifies k → dead (entryOf cols k) ≡ true
   unfolding deadAt
-  qualified k q = rw (le-ltb 1 (getD pieces (numberOf cols k) 0) (q .bare), lt-ltb 1 (getD weights (numberOf cols k) 0) (q .heavy), q .unlisted)
+  qualified k q = rw (le-ltb 1 (getD pieces (entryOf cols k) 0) (q .bare), lt-ltb 1 (getD weights (entryOf cols k) 0) (q .heavy), q .unlisted)
 
   pub record FirstOf (k : Cell) : Type 0 where
-    pub there : OnGrid rows cols (k .0) (k .1)
+    pub there : CellOn rows cols (k .0) (k .1)
     pub dead-there : Qualifies k
-    pub none-before : (i : Cell) → OnGrid rows cols (i .0) (i .1) → Before i k → Qualifies i → ⊥
+    pub none-before : (i : Cell) → CellOn rows cols (i .0) (i .1) → Before i k → Qualifies i → ⊥
 
   -- the cell that the scan finds
   abbrev found : ℕ
@@ -91,17 +91,17 @@ module _ (kind : Kind) (pieces weights : List ℕ) (rows cols : ℕ) (tiles : Li
       let p : 0 < cols = some-cols found rows cols h in
       subst (λ (x : Cell). FirstOf x) (a .1)
       (record {
-        there = record { down = row-lt found rows cols p h; across = col-lt found cols p };
+        there = record { rowwise = row-lt found rows cols p h; colwise = col-lt found cols p };
         dead-there = qualifies (cellWith cols found) (ap dead (cell-is found cols) ∙ first-holds dead (rows * cols) h);
         none-before = λ i g b q.
-            let l = before-lt cols i (cellWith cols found) (g .across) b in
-            never _ (qualified i q) (first-before dead (rows * cols) (numberOf cols i) (omega (arith, cell-is found cols)));
+            let l = before-lt cols i (cellWith cols found) (g .colwise) b in
+            never _ (qualified i q) (first-before dead (rows * cols) (entryOf cols i) (omega (arith, cell-is found cols)));
       })
 
-  pub found-nowhere : deadEnd kind pieces weights rows cols tiles count ≡ Nowhere → (i : Cell) → OnGrid rows cols (i .0) (i .1) → Qualifies i → ⊥
+  pub found-nowhere : deadEnd kind pieces weights rows cols tiles count ≡ Nowhere → (i : Cell) → CellOn rows cols (i .0) (i .1) → Qualifies i → ⊥
   unfolding deadEnd
   found-nowhere e i g q =
       let none = nowhere-of (refusal (scanChecks pieces weights rows cols tiles count)) (ltb found (rows * cols)) (cellWith cols found) e in
       let h : rows * cols ≤ found = ltb-false found (rows * cols) none in
-      let l : numberOf cols i < rows * cols = cell-lt (g .down) (g .across) in
-      never _ (qualified i q) (first-before dead (rows * cols) (numberOf cols i) (omega arith))
+      let l : entryOf cols i < rows * cols = cell-lt (g .rowwise) (g .colwise) in
+      never _ (qualified i q) (first-before dead (rows * cols) (entryOf cols i) (omega arith))

@@ -16,7 +16,7 @@ use Rattle.base.specs.Counting.{some, first}
 use Rattle.base.proofs.Bools.{never, by-test, and-no-left, and-no-right}
 use Rattle.base.proofs.Numbers.{row-of, col-of}
 use Rattle.base.proofs.Counted.{some-none, some-is, some-next, first-is, first-none}
-use Rattle.rules.specs.Grid.{numberOf, Shape}
+use Rattle.rules.specs.Grid.{entryOf, Shape}
 use Rattle.rules.specs.Forced.{listedAt, deadAt}
 use Rattle.rules.specs.declared.Cell.{Cell}
 use Rattle.rules.specs.declared.DeadEnd.the-variants.{At, Nowhere}
@@ -26,12 +26,12 @@ none-of : (test : ℕ → Bool) (n : ℕ) → some n test ≡ false → (k : ℕ
 none-of test n e k l = by-test (test k) (λ t. never (some n test) (some-is test n k l t) e) (λ t. t)
 
 module _ (n cols : ℕ) (test : ℕ → Bool) where
-  pub found-at : (cell : Cell) → cell .1 < cols → numberOf cols cell < n → some (numberOf cols cell) test ≡ false → test (numberOf cols cell) ≡ true
+  pub found-at : (cell : Cell) → cell .1 < cols → entryOf cols cell < n → some (entryOf cols cell) test ≡ false → test (entryOf cols cell) ≡ true
       → At cell ≡ foundBy n cols test
   unfolding foundBy
   found-at cell l in-plane e t =
-      let f : first n test ≡ numberOf cols cell = first-is test n (numberOf cols cell) in-plane t (none-of test (numberOf cols cell) e) in
-      rw (f, lt-ltb (numberOf cols cell) n in-plane, row-of (cell .0) {c = cell .1} {cols = cols} l, col-of (cell .0) {c = cell .1} {cols = cols} l)
+      let f : first n test ≡ entryOf cols cell = first-is test n (entryOf cols cell) in-plane t (none-of test (entryOf cols cell) e) in
+      rw (f, lt-ltb (entryOf cols cell) n in-plane, row-of (cell .0) {c = cell .1} {cols = cols} l, col-of (cell .0) {c = cell .1} {cols = cols} l)
 
   pub found-none : some n test ≡ false → Nowhere ≡ foundBy n cols test
   unfolding foundBy

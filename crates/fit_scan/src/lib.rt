@@ -1,10 +1,10 @@
 // Document 01, "Fit", the dead end: the text's `check_for_contradiction`. A cell that is laid, or has no weight above 1, is not listed.
 ghost use mathlib.Core.Path.{_≡_};
 ghost use Rattle.base.specs.Refusal.{refusal};
-ghost use Rattle.rules.specs.Grid.{numberOf, flat};
+ghost use Rattle.rules.specs.Grid.{entryOf, flat};
 ghost use Rattle.rules.specs.Forced.{deadAt, scanLengths, scanChecks, deadEnd};
 ghost use Rattle.rules.specs.Promises.{before};
-ghost use Rattle.fit_pattern.specs.Ready.{OnGrid};
+ghost use Rattle.fit_pattern.specs.Ready.{CellOn};
 ghost use Rattle.fit_scan.specs.Scanned.{Scannable, scanned, cellChecks};
 use rules::Cell;
 use rules::DeadEnd;
@@ -74,8 +74,8 @@ fn is_dead_end(
     cell: Cell,
 ) -> bool
     requires { ⌜ Scannable (now pieces) (now weights) rows cols (now tiles) count ⌝ }
-    requires { ⌜ OnGrid rows cols (cell .0) (cell .1) ⌝ }
-    ensures { λ r. ⌜ r ≡ deadAt (flat rows cols) (before tiles) (before pieces) (before weights) count (numberOf cols cell) ⌝ }
+    requires { ⌜ CellOn rows cols (cell .0) (cell .1) ⌝ }
+    ensures { λ r. ⌜ r ≡ deadAt (flat rows cols) (before tiles) (before pieces) (before weights) count (entryOf cols cell) ⌝ }
 {
     let at = cell.0 * cols + cell.1;
     if pieces[at] > rules::BARE_PIECE {

@@ -25,7 +25,7 @@ use Rattle.rules.specs.Sets.{has, bitsOf}
 use Rattle.rules.specs.Grid.{Shape}
 use Rattle.rules.specs.Fit.{pattern, fitsTile, serves, hasFitting, allows, windowOrder, leftAfter, lists}
 use Rattle.bitset_colours.proofs.Digits.{bits-lt, bits-ext, bits-has, none-is}
-use Rattle.fit_pattern.specs.Words.{shownBy}
+use Rattle.fit_pattern.specs.Packed.{shownBy}
 use Rattle.fit_pattern.proofs.Windows.{read-is}
 use Rattle.fit_windows.specs.Kept.{Keeps}
 use Rattle.fit_windows.proofs.Kept.{none-has, keeps-all, keeps-ext, keeps-both, keeps-rest, keeps-none}

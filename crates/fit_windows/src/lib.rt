@@ -5,15 +5,15 @@ ghost use Prim.Native.Nat.{_+_, _*_, _^_, _<_, _≤_};
 ghost use lib.Dec.{eqb};
 ghost use lib.ListN.{length, getD};
 ghost use Rattle.base.specs.Counting.{pick};
-ghost use Rattle.rules.specs.Grid.{cellAt, numberOf, flat};
+ghost use Rattle.rules.specs.Grid.{cellAt, entryOf, flat};
 ghost use Rattle.rules.specs.Bounds.{maxColours, maxTiles};
 ghost use Rattle.rules.specs.Tests.{tilesIn};
 ghost use Rattle.rules.specs.Sets.{bitsOf};
 ghost use Rattle.rules.specs.Fit.{pattern, fitCount, serves, hasFitting, allows, windowOrder, lists, foundAt};
 ghost use Rattle.rules.specs.Promises.{before};
 ghost use Rattle.rules.specs.declared.Listing.the-variants.{Colours};
-ghost use Rattle.fit_pattern.specs.Words.{shownBy, Masked};
-ghost use Rattle.fit_pattern.specs.Ready.{Readable, OnGrid};
+ghost use Rattle.fit_pattern.specs.Packed.{shownBy, Masked};
+ghost use Rattle.fit_pattern.specs.Ready.{Readable, CellOn};
 ghost use Rattle.fit_windows.specs.Ready.{Countable, Ready, Coloured};
 ghost use Rattle.fit_windows.specs.Kept.{Keeps};
 use rules::Cell;
@@ -59,8 +59,8 @@ pub fn fit_count_at(
     col: usize,
 ) -> u32
     requires { ⌜ Countable (now pieces) rows cols (now tiles) ⌝ }
-    requires { ⌜ OnGrid rows cols row col ⌝ }
-    ensures { λ r. ⌜ r ≡ fitCount (before tiles) (pattern (flat rows cols) (before pieces) (numberOf cols (cellAt row col))) ⌝ }
+    requires { ⌜ CellOn rows cols row col ⌝ }
+    ensures { λ r. ⌜ r ≡ fitCount (before tiles) (pattern (flat rows cols) (before pieces) (entryOf cols (cellAt row col))) ⌝ }
 {
     let window = fit_pattern::window_at(pieces, rows, cols, row, col);
     let mask = fit_pattern::masks_for(&window);
@@ -137,10 +137,10 @@ fn narrowed(
 ) -> u32
     requires { ⌜ left < 2 ^ maxColours ⌝ }
     requires { ⌜ Readable (now pieces) rows cols ⌝ }
-    requires { ⌜ OnGrid rows cols row col ⌝ }
+    requires { ⌜ CellOn rows cols row col ⌝ }
     requires { ⌜ Coloured (now tiles) ⌝ }
     requires { ⌜ q < 9 ⌝ }
-    ensures { λ r. ⌜ Keeps left (λ t. allows (flat rows cols) (before tiles) (before pieces) (numberOf cols (cellAt row col)) t q) r ⌝ }
+    ensures { λ r. ⌜ Keeps left (λ t. allows (flat rows cols) (before tiles) (before pieces) (entryOf cols (cellAt row col)) t q) r ⌝ }
 {
     if row < q / 3 {
         return left;
@@ -171,8 +171,8 @@ fn viable_colours(
     col: usize,
 ) -> u32
     requires { ⌜ Ready (now pieces) rows cols (now tiles) count ⌝ }
-    requires { ⌜ OnGrid rows cols row col ⌝ }
-    ensures { λ r. ⌜ r ≡ bitsOf count (lists (flat rows cols) (before tiles) (before pieces) (numberOf cols (cellAt row col))) ⌝ }
+    requires { ⌜ CellOn rows cols row col ⌝ }
+    ensures { λ r. ⌜ r ≡ bitsOf count (lists (flat rows cols) (before tiles) (before pieces) (entryOf cols (cellAt row col))) ⌝ }
 {
     let mut left = bitset_colours::all_colours(count);
     let mut i = 0;
@@ -196,8 +196,8 @@ pub fn viable_tiles_at(
     cell: Cell,
 ) -> Listing
     requires { ⌜ Ready (now pieces) rows cols (now tiles) count ⌝ }
-    requires { ⌜ OnGrid rows cols (cell .0) (cell .1) ⌝ }
-    ensures { λ r. ⌜ r ≡ Colours (foundAt (flat rows cols) (before tiles) (before pieces) count (numberOf cols cell)) ⌝ }
+    requires { ⌜ CellOn rows cols (cell .0) (cell .1) ⌝ }
+    ensures { λ r. ⌜ r ≡ Colours (foundAt (flat rows cols) (before tiles) (before pieces) count (entryOf cols cell)) ⌝ }
 {
     let bits = viable_colours(pieces, rows, cols, tiles, count, cell.0, cell.1);
     Listing::Colours(TileBitset {

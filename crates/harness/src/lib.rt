@@ -11,9 +11,9 @@ ghost use Rattle.boundary_slots.specs.Slots.{world, offsetBy, setFrom};
 ghost use Rattle.boundary.specs.Boundary.{Numbered, writtenNumber};
 ghost use Rattle.boundary.specs.Boundary.{TellsDeadEnd, TellsSpans, TellsSet, TellsVerdict, TellsCount, TellsFraction};
 ghost use Rattle.harness.specs.Harness.{PortLists, PortRecounts};
+use boundary::judged;
 use boundary::listed;
 use boundary::set_given;
-use boundary::told;
 use boundary::written;
 use boundary_longs::counted;
 use boundary_longs::divided;
@@ -39,7 +39,7 @@ pub extern "C" fn port_listing(
 ) -> u32
     ensures { λ r. ⌜ PortLists (before pieces) rows cols (before tiles) count row col down across (before out) r (after out) ⌝ }
 {
-    let position = world_at(row, col);
+    let place = world_at(row, col);
     let offset = offset_at(down, across);
     let answer = fit::compute_viable_tiles_at_position(
         pieces,
@@ -47,7 +47,7 @@ pub extern "C" fn port_listing(
         cols,
         tiles,
         count,
-        position,
+        place,
         offset,
     );
     listed(answer, out)
@@ -95,9 +95,9 @@ pub extern "C" fn port_get_region_spans(
 ) -> u32
     ensures { λ r. ⌜ TellsSpans (regionSpans (offsetBy down across) (world row col) radius) (before out) r (after out) ⌝ }
 {
-    let position = world_at(row, col);
+    let place = world_at(row, col);
     let offset = offset_at(down, across);
-    let answer = place_spans::get_region_spans(offset, position, radius);
+    let answer = place_spans::get_region_spans(offset, place, radius);
     spanned(answer, out)
 }
 
@@ -130,7 +130,7 @@ pub extern "C" fn port_set_contains(bits: u32, size: u32, colour: u32, out: &mut
     ensures { λ r. ⌜ TellsVerdict (contained (setFrom bits size) colour) (before out) r (after out) ⌝ }
 {
     let answer = bitset::contains(TileBitset { bits, size }, colour);
-    told(answer, out)
+    judged(answer, out)
 }
 
 #[no_mangle]
@@ -158,7 +158,7 @@ pub extern "C" fn port_set_is_empty(bits: u32, size: u32, out: &mut [u32]) -> u3
     ensures { λ r. ⌜ TellsVerdict (emptiness (setFrom bits size)) (before out) r (after out) ⌝ }
 {
     let answer = bitset::is_empty(TileBitset { bits, size });
-    told(answer, out)
+    judged(answer, out)
 }
 
 #[no_mangle]
@@ -214,9 +214,9 @@ pub extern "C" fn port_raise_weights(
 ) -> u32
     ensures { λ r. ⌜ Numbered writtenNumber (Raises flat rows cols (world row col) (offsetBy down across) (before weights)) r (after weights) ⌝ }
 {
-    let position = world_at(row, col);
+    let place = world_at(row, col);
     let offset = offset_at(down, across);
-    let answer = board_weight_calls::raise_adjacency_weights(weights, rows, cols, position, offset);
+    let answer = board_weight_calls::raise_adjacency_weights(weights, rows, cols, place, offset);
     written(answer)
 }
 
@@ -232,15 +232,9 @@ pub extern "C" fn port_lower_weights(
 ) -> u32
     ensures { λ r. ⌜ Numbered writtenNumber (Lowers flat rows cols (world row col) (offsetBy down across) (before weights)) r (after weights) ⌝ }
 {
-    let position = world_at(row, col);
+    let place = world_at(row, col);
     let offset = offset_at(down, across);
-    let answer = board_weight_calls::revert_adjacency_weights(
-        weights,
-        rows,
-        cols,
-        position,
-        offset,
-    );
+    let answer = board_weight_calls::revert_adjacency_weights(weights, rows, cols, place, offset);
     written(answer)
 }
 
@@ -259,7 +253,7 @@ pub extern "C" fn port_recount(
 ) -> u32
     ensures { λ r. ⌜ PortRecounts rows cols (before tiles) count row col down across (before pieces) (before counts) r (after counts) ⌝ }
 {
-    let position = world_at(row, col);
+    let place = world_at(row, col);
     let offset = offset_at(down, across);
     let answer = board_recount::recount_feasibility(
         counts,
@@ -268,7 +262,7 @@ pub extern "C" fn port_recount(
         cols,
         tiles,
         count,
-        position,
+        place,
         offset,
     );
     written(answer)

@@ -25,14 +25,14 @@ pub extern "C" fn port_normalise(
     ensures { λ r. ⌜ Numbered writtenNumber (Normalises (before probabilities) rows cols count (world row col) (offsetBy down across)
         (before out)) r (after out) ⌝ }
 {
-    let position = world_at(row, col);
+    let place = world_at(row, col);
     let offset = offset_at(down, across);
     let answer = probabilities::get_tile_probabilities_at_position(
         probabilities,
         rows,
         cols,
         count,
-        position,
+        place,
         offset,
         out,
     );
@@ -57,7 +57,7 @@ pub extern "C" fn port_product(
     ensures { λ r. ⌜ Numbered writtenNumber (Multiplies rows cols count (blockOf blockrows blockcols (before block)) (world row col) (offsetBy down across)
         radius (before probabilities)) r (after probabilities) ⌝ }
 {
-    let position = world_at(row, col);
+    let place = world_at(row, col);
     let offset = offset_at(down, across);
     let answer = probabilities::update_probabilities(
         probabilities,
@@ -67,7 +67,7 @@ pub extern "C" fn port_product(
         block,
         blockrows,
         blockcols,
-        position,
+        place,
         offset,
         radius,
     );
@@ -92,7 +92,7 @@ pub extern "C" fn port_quotient(
     ensures { λ r. ⌜ Numbered writtenNumber (Divides rows cols count (blockOf blockrows blockcols (before block)) (world row col) (offsetBy down across)
         radius (before probabilities)) r (after probabilities) ⌝ }
 {
-    let position = world_at(row, col);
+    let place = world_at(row, col);
     let offset = offset_at(down, across);
     let answer = probabilities::revert_probabilities(
         probabilities,
@@ -102,7 +102,7 @@ pub extern "C" fn port_quotient(
         block,
         blockrows,
         blockcols,
-        position,
+        place,
         offset,
         radius,
     );
@@ -124,9 +124,9 @@ pub extern "C" fn port_lay_score(
     ensures { λ r. ⌜ Numbered writtenNumber (ScoresLay rows cols (before counts) tiles (world row col) (offsetBy down across)
         (before scores)) r (after scores) ⌝ }
 {
-    let position = world_at(row, col);
+    let place = world_at(row, col);
     let offset = offset_at(down, across);
-    let answer = scores::update_feasibility(scores, counts, rows, cols, tiles, position, offset);
+    let answer = scores::update_feasibility(scores, counts, rows, cols, tiles, place, offset);
     written(answer)
 }
 

@@ -5,7 +5,7 @@ ghost use Rattle.rules.specs.Promises.{before, after};
 ghost use Rattle.boundary_slots.specs.Slots.{world, offsetBy};
 ghost use Rattle.boundary.specs.Boundary.{TellsVerdict, TellsCount};
 ghost use Rattle.harness_forced.specs.Slices.{queueFrom, positionsFrom, boundsFrom, PortForces, PortAdds, PortTakes};
-use boundary::told;
+use boundary::judged;
 use boundary_longs::counted;
 use boundary_slots::offset_at;
 use boundary_slots::world_at;
@@ -36,7 +36,7 @@ pub extern "C" fn port_forced(
     ensures { λ r. ⌜ PortForces (before pieces) rows cols (before tiles) count (world row col) (offsetBy down across)
         (boundsFrom within (world minrow mincol) (world maxrow maxcol)) coordinates colours len r ⌝ }
 {
-    let position = world_at(row, col);
+    let place = world_at(row, col);
     let offset = offset_at(down, across);
     let least = world_at(minrow, mincol);
     let most = world_at(maxrow, maxcol);
@@ -47,7 +47,7 @@ pub extern "C" fn port_forced(
         cols,
         tiles,
         count,
-        position,
+        place,
         offset,
         bounds,
     );
@@ -105,7 +105,7 @@ pub extern "C" fn port_queue_is_empty(
 {
     let queue = slices::queue_from(coordinates, colours, len);
     let answer = queue::is_empty(queue);
-    told(answer, out)
+    judged(answer, out)
 }
 
 #[no_mangle]

@@ -86,8 +86,8 @@ abbrev pub listLeft : ColourList → Bytes → Bytes
 listLeft l out =
     unlessRefused (l .refused) (bytesWith (putFrom 0 (l .colours) (out .bytes)) (put (out .number) 0 (l .len))) out
 
-abbrev pub TellsColours : ColourList → Lent (List ℕ) → Lent (List ℕ) → ℕ → Type 0
-TellsColours l colours len r = Gives (l .refused) (listLeft l (bytesWith (before colours) (before len))) r (bytesWith (after colours) (after len))
+abbrev pub TellsMembers : ColourList → Lent (List ℕ) → Lent (List ℕ) → ℕ → Type 0
+TellsMembers l colours len r = Gives (l .refused) (listLeft l (bytesWith (before colours) (before len))) r (bytesWith (after colours) (after len))
 
 -- an extraction: the store as it is left, and the number of tiles
 abbrev pub PortExtracts : List ℕ → ℕ → ℕ → ℕ → Bool → Bool → Lent (List ℕ) → Lent (List ℕ) → ℕ → Type 0

@@ -3,7 +3,7 @@
 ghost use mathlib.Core.Path.{_≡_};
 ghost use lib.ListN.{getD};
 ghost use Rattle.rules.specs.Promises.{before, after};
-ghost use Rattle.harness_tiles.specs.Lent.{boxOf, nineOf, putFrom, padsStored, offsetStored, TellsExtension, TellsColours};
+ghost use Rattle.harness_tiles.specs.Lent.{boxOf, nineOf, putFrom, padsStored, offsetStored, TellsExtension, TellsMembers};
 use boundary_slots::digit;
 use boundary_slots::put_byte;
 use boundary_slots::put_long;
@@ -90,7 +90,7 @@ pub fn extension_told(
 }
 
 pub fn colours_told(list: ColourList, colours: &mut [u8], len: &mut [u64]) -> u32
-    ensures { λ r. ⌜ TellsColours list colours len r ⌝ }
+    ensures { λ r. ⌜ TellsMembers list colours len r ⌝ }
 {
     if list.refused != 0 {
         return list.refused as u32;

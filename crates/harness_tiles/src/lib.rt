@@ -7,9 +7,9 @@ ghost use Rattle.rules.specs.Tiles.{rotated, reflected, membership};
 ghost use Rattle.rules.specs.Promises.{before, after, CopiesWords, CopiesFloats};
 ghost use Rattle.boundary_slots.specs.Slots.{world, offsetBy, setFrom};
 ghost use Rattle.boundary.specs.Boundary.{Numbered, writtenNumber, TellsSet, TellsVerdict};
-ghost use Rattle.harness_tiles.specs.Lent.{boxOf, padsBy, nineOf, putFrom, TellsExtension, TellsColours, PortExtracts};
+ghost use Rattle.harness_tiles.specs.Lent.{boxOf, padsBy, nineOf, putFrom, TellsExtension, TellsMembers, PortExtracts};
+use boundary::judged;
 use boundary::set_given;
-use boundary::told;
 use boundary::written;
 use boundary_longs::extracted;
 use boundary_slots::offset_at;
@@ -32,9 +32,9 @@ pub extern "C" fn port_contains(
     ensures { λ r. ⌜ TellsVerdict (boxContains (boxOf minrow mincol maxrow maxcol) (world row col)) (before out) r (after out) ⌝ }
 {
     let bounds = lent::box_at(minrow, mincol, maxrow, maxcol);
-    let position = world_at(row, col);
-    let answer = place_boxes::contains(bounds, position);
-    told(answer, out)
+    let place = world_at(row, col);
+    let answer = place_boxes::contains(bounds, place);
+    judged(answer, out)
 }
 
 #[no_mangle]
@@ -52,9 +52,9 @@ pub extern "C" fn port_calculate_extension(
 ) -> u32
     ensures { λ r. ⌜ TellsExtension (extensionOf rows cols (offsetBy down across) (world row col) radius) pads offset needed r ⌝ }
 {
-    let position = world_at(row, col);
+    let place = world_at(row, col);
     let from = offset_at(down, across);
-    let answer = place_extension::calculate_extension(rows, cols, from, position, radius);
+    let answer = place_extension::calculate_extension(rows, cols, from, place, radius);
     lent::extension_told(answer, pads, offset, needed)
 }
 
@@ -78,10 +78,10 @@ pub extern "C" fn port_constrained_extension(
     ensures { λ r. ⌜ TellsExtension (boxedExtension rows cols (offsetBy down across) (world row col) radius (boxOf minrow mincol maxrow maxcol))
         pads offset needed r ⌝ }
 {
-    let position = world_at(row, col);
+    let place = world_at(row, col);
     let from = offset_at(down, across);
     let bounds = lent::box_at(minrow, mincol, maxrow, maxcol);
-    let answer = place_extension::constrained_extension(rows, cols, from, position, radius, bounds);
+    let answer = place_extension::constrained_extension(rows, cols, from, place, radius, bounds);
     lent::extension_told(answer, pads, offset, needed)
 }
 
@@ -133,7 +133,7 @@ pub extern "C" fn port_extend_f64(
 
 #[no_mangle]
 pub extern "C" fn port_set_to_vec(bits: u32, size: u32, colours: &mut [u8], len: &mut [u64]) -> u32
-    ensures { λ r. ⌜ TellsColours (membersListed (setFrom bits size)) colours len r ⌝ }
+    ensures { λ r. ⌜ TellsMembers (membersListed (setFrom bits size)) colours len r ⌝ }
 {
     let list = bitset::to_vec(TileBitset { bits, size });
     lent::colours_told(list, colours, len)

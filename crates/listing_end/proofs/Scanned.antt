@@ -20,7 +20,7 @@ use Rattle.rules.specs.declared.DeadEnd.the-variants as DeadEnd·
 use Rattle.check_sizes.proofs.Sides.{board-cols, few-cells}
 use Rattle.rules.specs.Board.{Board}
 use Rattle.listing_job.specs.declared.Setup.{Setup}
-use Rattle.listing_lines.specs.Pages.{Writes}
+use Rattle.listing_lines.specs.Pages.{Prints}
 use Rattle.listing_lines.proofs.Written.{writes-as}
 use Rattle.listing_end.specs.Ending.{refusedLine, planesText, endText, panelWith, deadEndText, deadEndWords, noneLine, scanText}
 use Rattle.listing_end.specs.Near.{Near}
@@ -43,7 +43,7 @@ near-at cell e h = subst Near e h
 
 pub end-is : {at r : ℕ} {x y : List ℕ} {d : DeadEnd} (s : Setup) (tiles : List ℕ) (b : Board)
     → d ≡ deadEnd flat (b .pieces) (b .weights) (s .board .rows) (s .board .cols) tiles (s .count)
-    → Writes (planesText b (s .board .cols) ++ scanText d) at x r y → Writes (endText (panelWith s tiles) (s .count) b) at x r y
+    → Prints (planesText b (s .board .cols) ++ scanText d) at x r y → Prints (endText (panelWith s tiles) (s .count) b) at x r y
 unfolding endText panelWith
 end-is s tiles b e w = writes-as (ap (λ (q : DeadEnd). planesText b (s .board .cols) ++ scanText q) e) w
 

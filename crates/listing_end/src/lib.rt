@@ -7,7 +7,7 @@ ghost use Rattle.rules.specs.Bounds.{maxCells};
 ghost use Rattle.rules.specs.Tests.{boardSides};
 ghost use Rattle.rules.specs.Promises.{before, after, boardBefore};
 ghost use Rattle.listing_lines.specs.Lines.{planeText};
-ghost use Rattle.listing_lines.specs.Pages.{Writes};
+ghost use Rattle.listing_lines.specs.Pages.{Prints};
 ghost use Rattle.listing_end.specs.Ending.{refusedLine, planesText, deadEndText, scanText, deadEndWords, noneLine, endText, panelWith};
 ghost use Rattle.listing_end.specs.Near.{Near};
 use listing_job::Setup;
@@ -23,7 +23,7 @@ fn put_headed(
     plane: &[u32],
     cols: usize,
 ) -> usize
-    ensures { λ r. ⌜ Writes (before heading ++ planeText least (before plane) cols) at (before out) r (after out) ⌝ }
+    ensures { λ r. ⌜ Prints (before heading ++ planeText least (before plane) cols) at (before out) r (after out) ⌝ }
 {
     let next = listing_lines::put_text(out, at, heading);
     listing_lines::put_plane(out, next, least, plane, cols)
@@ -37,7 +37,7 @@ fn put_planes(
     counts: &[u32],
     cols: usize,
 ) -> usize
-    ensures { λ r. ⌜ Writes (planesText (boardBefore pieces weights counts) cols) at (before out) r (after out) ⌝ }
+    ensures { λ r. ⌜ Prints (planesText (boardBefore pieces weights counts) cols) at (before out) r (after out) ⌝ }
 {
     let second = put_headed(out, at, b"pieces\n", rules::BARE_PIECE, pieces, cols);
     let third = put_headed(out, second, b"weights\n", 0, weights, cols);
@@ -46,7 +46,7 @@ fn put_planes(
 
 // `refused N`, on a line of its own.
 pub fn put_refused(out: &mut [u8], at: usize, n: u8) -> usize
-    ensures { λ r. ⌜ Writes (refusedLine n) at (before out) r (after out) ⌝ }
+    ensures { λ r. ⌜ Prints (refusedLine n) at (before out) r (after out) ⌝ }
 {
     let next = listing_lines::put_text(out, at, b"refused ");
     listing_lines::put_number_line(out, next, n as u32)
@@ -54,7 +54,7 @@ pub fn put_refused(out: &mut [u8], at: usize, n: u8) -> usize
 
 fn put_dead_end(out: &mut [u8], at: usize, cell: Cell) -> usize
     requires { ⌜ (cell .0 ≤ maxCells) × (cell .1 ≤ maxCells) ⌝ }
-    ensures { λ r. ⌜ Writes (deadEndText cell) at (before out) r (after out) ⌝ }
+    ensures { λ r. ⌜ Prints (deadEndText cell) at (before out) r (after out) ⌝ }
 {
     let row = listing_lines::put_text(out, at, b"dead end ");
     let blank = listing_lines::put_number(out, row, cell.0 as u32);
@@ -63,14 +63,14 @@ fn put_dead_end(out: &mut [u8], at: usize, cell: Cell) -> usize
 }
 
 fn put_no_dead_end(out: &mut [u8], at: usize) -> usize
-    ensures { λ r. ⌜ Writes (deadEndWords ++ noneLine) at (before out) r (after out) ⌝ }
+    ensures { λ r. ⌜ Prints (deadEndWords ++ noneLine) at (before out) r (after out) ⌝ }
 {
     listing_lines::put_text(out, at, b"dead end none\n")
 }
 
 fn put_scan(out: &mut [u8], at: usize, found: DeadEnd) -> usize
     requires { ⌜ Near found ⌝ }
-    ensures { λ r. ⌜ Writes (scanText found) at (before out) r (after out) ⌝ }
+    ensures { λ r. ⌜ Prints (scanText found) at (before out) r (after out) ⌝ }
 {
     match found {
         DeadEnd::At(cell) => put_dead_end(out, at, cell),
@@ -89,7 +89,7 @@ pub fn put_end(
     setup: Setup,
 ) -> usize
     requires { ⌜ boardSides (setup .board .rows) (setup .board .cols) ≡ true ⌝ }
-    ensures { λ r. ⌜ Writes (endText (panelWith setup (before tiles)) (setup .count) (boardBefore pieces weights counts)) at (before out) r (after out) ⌝ }
+    ensures { λ r. ⌜ Prints (endText (panelWith setup (before tiles)) (setup .count) (boardBefore pieces weights counts)) at (before out) r (after out) ⌝ }
 {
     let rows = setup.board.rows;
     let cols = setup.board.cols;

@@ -12,7 +12,7 @@ use lib.Seq.{take-suc, take-all}
 use borrow.Author.Tests.{lt-ltb, le-ltb, eq-eqb, ne-eqb}
 use Rattle.base.proofs.Bools.{by-test}
 use Rattle.listing_lines.specs.Lines.{digits, decimal, numberLine, joined, parting, cellText, planeText}
-use Rattle.listing_lines.specs.Pages.{Writes}
+use Rattle.listing_lines.specs.Pages.{Prints}
 use Rattle.listing_lines.proofs.Written.{writes-none, writes-then, writes-as}
 
 -- ---- digits
@@ -30,33 +30,33 @@ module _ (k n : ℕ) where
   digits-more j b e h q = rw (e, q, le-ltb n 10 h)
 
 module _ {at : ℕ} {x : List ℕ} (k n : ℕ) where
-  pub put-none : k ≡ 0 → Writes (digits k n) at x at x
+  pub put-none : k ≡ 0 → Prints (digits k n) at x at x
   put-none e = writes-as (digits-none k n e) (writes-none at x)
 
-  pub put-one : {b r : ℕ} {y : List ℕ} → (k ≡ 0 → ⊥) → n < 10 → b ≡ 48 + n % 10 → Writes (b ∷ []) at x r y → Writes (digits k n) at x r y
+  pub put-one : {b r : ℕ} {y : List ℕ} → (k ≡ 0 → ⊥) → n < 10 → b ≡ 48 + n % 10 → Prints (b ∷ []) at x r y → Prints (digits k n) at x r y
   put-one {b} h l q f = writes-as (digits-one k n (k - 1) b (omega arith) l q) f
 
   pub put-more : {b m r : ℕ} {w y : List ℕ} → (k ≡ 0 → ⊥) → 10 ≤ n → b ≡ 48 + n % 10
-      → Writes (digits (k - 1) (n / 10)) at x m w → Writes (b ∷ []) m w r y → Writes (digits k n) at x r y
+      → Prints (digits (k - 1) (n / 10)) at x m w → Prints (b ∷ []) m w r y → Prints (digits k n) at x r y
   put-more {b} h l q f g = writes-as (digits-more k n (k - 1) b (omega arith) l q) (writes-then f g)
 
 -- ---- runs of texts
 module _ {at r s : ℕ} {x y z : List ℕ} where
-  pub text-turn : (l : List ℕ) (k : ℕ) → k < length l → Writes (take k l) at x r y → Writes (getD l k 0 ∷ []) r y s z → Writes (take (k + 1) l) at x s z
+  pub text-turn : (l : List ℕ) (k : ℕ) → k < length l → Prints (take k l) at x r y → Prints (getD l k 0 ∷ []) r y s z → Prints (take (k + 1) l) at x s z
   text-turn l k h f g = writes-as (sym (ap (λ (m : ℕ). take m l) (add-one k) ∙ take-suc l k 0 h)) (writes-then f g)
 
-  pub joined-turn : (f : ℕ → List ℕ) (k : ℕ) → Writes (joined k f) at x r y → Writes (f k) r y s z → Writes (joined (k + 1) f) at x s z
+  pub joined-turn : (f : ℕ → List ℕ) (k : ℕ) → Prints (joined k f) at x r y → Prints (f k) r y s z → Prints (joined (k + 1) f) at x s z
   unfolding joined
   joined-turn f k p q = rw add-one (writes-then p q)
 
-pub text-all : {at r : ℕ} {x y : List ℕ} (l : List ℕ) (k : ℕ) → length l ≤ k → Writes (take k l) at x r y → Writes l at x r y
+pub text-all : {at r : ℕ} {x y : List ℕ} (l : List ℕ) (k : ℕ) → length l ≤ k → Prints (take k l) at x r y → Prints l at x r y
 text-all l k h f = writes-as (take-all k l h) f
 
-pub joined-none : (f : ℕ → List ℕ) (at : ℕ) (x : List ℕ) → Writes (joined 0 f) at x at x
+pub joined-none : (f : ℕ → List ℕ) (at : ℕ) (x : List ℕ) → Prints (joined 0 f) at x at x
 unfolding joined
 joined-none f at x = writes-none at x
 
-pub joined-all : {at r : ℕ} {x y : List ℕ} (f : ℕ → List ℕ) (k n : ℕ) → k ≤ n → n ≤ k → Writes (joined k f) at x r y → Writes (joined n f) at x r y
+pub joined-all : {at r : ℕ} {x y : List ℕ} (f : ℕ → List ℕ) (k n : ℕ) → k ≤ n → n ≤ k → Prints (joined k f) at x r y → Prints (joined n f) at x r y
 joined-all f k n h l p = let e : k ≡ n = omega arith in writes-as (ap (λ (m : ℕ). joined m f) e) p
 
 -- ---- cells
@@ -73,7 +73,7 @@ unfolding parting
 gap-inner cols k h = rw (ne-eqb (k % cols + 1) cols h)
 
 pub cell-is : {at r s b n : ℕ} {x y z : List ℕ} (least : ℕ) (plane : List ℕ) (cols k : ℕ) → n ≡ getD plane k 0 - least → b ≡ parting cols k
-    → Writes (decimal n) at x r y → Writes (b ∷ []) r y s z → Writes (cellText least plane cols k) at x s z
+    → Prints (decimal n) at x r y → Prints (b ∷ []) r y s z → Prints (cellText least plane cols k) at x s z
 unfolding cellText
 cell-is least plane cols k p q f g = writes-as (rw (p, q)) (writes-then f g)
 

@@ -9,7 +9,7 @@ use native.Mathlib.Omega.{arith}
 use lib.ListN.{length, set, drop, length-append}
 use lib.Seq.{sets, length-sets, sets-eq, set-out}
 use Rattle.base.proofs.Numbers.{lt-or-le}
-use Rattle.listing_lines.specs.Pages.{pageWith, placeAfter, Writes}
+use Rattle.listing_lines.specs.Pages.{pageWith, placeAfter, Prints}
 
 pub length-page : (t : List ℕ) (at : ℕ) (x : List ℕ) → length (pageWith t at x) ≡ length x
 unfolding pageWith
@@ -55,19 +55,19 @@ unfolding placeAfter
 place-there t u at x y e = omega (arith, length-append t u)
 
 -- ---- a call that writes
-pub writes-byte : (b at : ℕ) (x : List ℕ) → at < length x → Writes (b ∷ []) at x (at + 1) (set x at b)
+pub writes-byte : (b at : ℕ) (x : List ℕ) → at < length x → Prints (b ∷ []) at x (at + 1) (set x at b)
 unfolding pageWith placeAfter
 writes-byte b at x h = record { place = omega arith; bytes = refl }
 
-pub writes-full : (t : List ℕ) (at : ℕ) (x : List ℕ) → length x ≤ at → Writes t at x at x
+pub writes-full : (t : List ℕ) (at : ℕ) (x : List ℕ) → length x ≤ at → Prints t at x at x
 unfolding placeAfter
 writes-full t at x h = record { place = omega arith; bytes = sym (page-out t at x h) }
 
-pub writes-none : (at : ℕ) (x : List ℕ) → Writes [] at x at x
+pub writes-none : (at : ℕ) (x : List ℕ) → Prints [] at x at x
 unfolding pageWith placeAfter
 writes-none at x = record { place = omega arith; bytes = refl }
 
-pub writes-then : {t u : List ℕ} {at r s : ℕ} {x y z : List ℕ} → Writes t at x r y → Writes u r y s z → Writes (t ++ u) at x s z
+pub writes-then : {t u : List ℕ} {at r s : ℕ} {x y z : List ℕ} → Prints t at x r y → Prints u r y s z → Prints (t ++ u) at x s z
 writes-then {t} {u} {at} {r} {s} {x} {y} {z} f g =
     record {
       place = g .place ∙ ap (λ (k : ℕ). placeAfter u k y) (f .place) ∙ place-there t u at x y (ap length (f .bytes) ∙ length-page t at x);
@@ -75,11 +75,11 @@ writes-then {t} {u} {at} {r} {s} {x} {y} {z} f g =
     }
 
 -- the same text by another name
-pub writes-as : {t u : List ℕ} {at r : ℕ} {x y : List ℕ} → t ≡ u → Writes t at x r y → Writes u at x r y
-writes-as {at = at} {r = r} {x = x} {y = y} e f = subst (λ (q : List ℕ). Writes q at x r y) e f
+pub writes-as : {t u : List ℕ} {at r : ℕ} {x y : List ℕ} → t ≡ u → Prints t at x r y → Prints u at x r y
+writes-as {at = at} {r = r} {x = x} {y = y} e f = subst (λ (q : List ℕ). Prints q at x r y) e f
 
 -- ---- what stands there in the end, where there was room
-pub writes-all : (t x : List ℕ) (r : ℕ) (y : List ℕ) → Writes t 0 x r y → length t ≤ length x → (r ≡ length t) × (y ≡ t ++ drop (length t) x)
+pub writes-all : (t x : List ℕ) (r : ℕ) (y : List ℕ) → Prints t 0 x r y → length t ≤ length x → (r ≡ length t) × (y ≡ t ++ drop (length t) x)
 unfolding pageWith placeAfter
 writes-all t x r y f h =
     let n : max 0 (min (0 + length t) (length x)) ≡ length t = omega arith in

@@ -13,6 +13,6 @@ unfoldable pub placeAfter : List ℕ → ℕ → List ℕ → ℕ
 placeAfter text at page = max at (min (at + length text) (length page))
 
 -- what a call promises that writes a text: the place that it answers, and what the buffer holds then
-pub record Writes (text : List ℕ) (at : ℕ) (page : List ℕ) (r : ℕ) (after : List ℕ) : Type 0 where
+pub record Prints (text : List ℕ) (at : ℕ) (page : List ℕ) (r : ℕ) (after : List ℕ) : Type 0 where
   pub place : r ≡ placeAfter text at page
   pub bytes : after ≡ pageWith text at page

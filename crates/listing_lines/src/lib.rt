@@ -6,10 +6,10 @@ ghost use Prim.Native.Nat.{_+_, _-_, _%_, _<_};
 ghost use lib.ListN.{length};
 ghost use Rattle.base.specs.Lent.{before, after};
 ghost use Rattle.listing_lines.specs.Lines.{digits, decimal, numberLine, parting, cellText, planeText};
-ghost use Rattle.listing_lines.specs.Pages.{Writes};
+ghost use Rattle.listing_lines.specs.Pages.{Prints};
 
 fn put(out: &mut [u8], at: usize, b: u8) -> usize
-    ensures { λ r. ⌜ Writes (b ∷ []) at (before out) r (after out) ⌝ }
+    ensures { λ r. ⌜ Prints (b ∷ []) at (before out) r (after out) ⌝ }
 {
     if at < out.len() {
         out[at] = b;
@@ -26,7 +26,7 @@ fn digit(n: u32) -> u8
 
 // The last k digits of n at most, the front ones first.
 fn put_digits(out: &mut [u8], at: usize, k: u32, n: u32) -> usize
-    ensures { λ r. ⌜ Writes (digits k n) at (before out) r (after out) ⌝ }
+    ensures { λ r. ⌜ Prints (digits k n) at (before out) r (after out) ⌝ }
 {
     if k == 0 {
         return at;
@@ -39,14 +39,14 @@ fn put_digits(out: &mut [u8], at: usize, k: u32, n: u32) -> usize
 }
 
 pub fn put_number(out: &mut [u8], at: usize, n: u32) -> usize
-    ensures { λ r. ⌜ Writes (decimal n) at (before out) r (after out) ⌝ }
+    ensures { λ r. ⌜ Prints (decimal n) at (before out) r (after out) ⌝ }
 {
     put_digits(out, at, 10, n)
 }
 
 // A number on a line of its own.
 pub fn put_number_line(out: &mut [u8], at: usize, n: u32) -> usize
-    ensures { λ r. ⌜ Writes (numberLine n) at (before out) r (after out) ⌝ }
+    ensures { λ r. ⌜ Prints (numberLine n) at (before out) r (after out) ⌝ }
 {
     let next = put_number(out, at, n);
     put(out, next, b'\n')
@@ -54,7 +54,7 @@ pub fn put_number_line(out: &mut [u8], at: usize, n: u32) -> usize
 
 // A text as it stands: a heading, for one.
 pub fn put_text(out: &mut [u8], at: usize, text: &[u8]) -> usize
-    ensures { λ r. ⌜ Writes (before text) at (before out) r (after out) ⌝ }
+    ensures { λ r. ⌜ Prints (before text) at (before out) r (after out) ⌝ }
 {
     let mut p = at;
     let mut k = 0;
@@ -90,7 +90,7 @@ fn above(least: u32, n: u32) -> u32
 // A cell of a plane, and what stands after it.
 fn put_cell(out: &mut [u8], at: usize, least: u32, plane: &[u32], cols: usize, k: usize) -> usize
     requires { ⌜ k < length (now plane) ⌝ }
-    ensures { λ r. ⌜ Writes (cellText least (before plane) cols k) at (before out) r (after out) ⌝ }
+    ensures { λ r. ⌜ Prints (cellText least (before plane) cols k) at (before out) r (after out) ⌝ }
 {
     let next = put_number(out, at, above(least, plane[k]));
     put(out, next, gap_after(cols, k))
@@ -98,7 +98,7 @@ fn put_cell(out: &mut [u8], at: usize, least: u32, plane: &[u32], cols: usize, k
 
 // A plane, row by row.
 pub fn put_plane(out: &mut [u8], at: usize, least: u32, plane: &[u32], cols: usize) -> usize
-    ensures { λ r. ⌜ Writes (planeText least (before plane) cols) at (before out) r (after out) ⌝ }
+    ensures { λ r. ⌜ Prints (planeText least (before plane) cols) at (before out) r (after out) ⌝ }
 {
     let mut p = at;
     let mut k = 0;

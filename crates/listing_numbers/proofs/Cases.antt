@@ -6,7 +6,7 @@ use mathlib.Core.Path.{_≡_, refl}
 use mathlib.Core.List.{List, [], _∷_, map}
 use Rattle.base.specs.Counting.{some, within}
 use Rattle.base.specs.Tables.{fold}
-use Rattle.listing_numbers.specs.Words.{Text, bad, numbers, isBlank, withDigit, grows, after, reading, numbersIn}
+use Rattle.listing_numbers.specs.Decimals.{Text, bad, numbers, isBlank, withDigit, grows, after, reading, numbersIn}
 use Rattle.listing_numbers.specs.Input.{inputText}
 
 pub record Case : Type 0 where

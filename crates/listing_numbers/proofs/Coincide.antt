@@ -4,7 +4,7 @@ use Prim.Native.Nat.{ℕ}
 use mathlib.Core.Path.{_≡_}
 use mathlib.Core.List.{List}
 use Rattle.base.proofs.Chain.{gives-coincide}
-use Rattle.listing_numbers.specs.Words.{Parses}
+use Rattle.listing_numbers.specs.Decimals.{Parses}
 use Rattle.listing_numbers.specs.Input.{inputText}
 use Rattle.listing_numbers.specs.declared.Parsed.{Parsed}
 

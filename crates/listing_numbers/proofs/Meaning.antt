@@ -12,7 +12,7 @@ use lib.Dec.{leb}
 use Rattle.base.specs.Counting.{within}
 use Rattle.base.specs.Tables.{fold}
 use Rattle.base.proofs.Bools.{and-right, by-test}
-use Rattle.listing_numbers.specs.Words.{Reading, spoilt, between, inside, isBlank, withDigit, grows, grown, after, bad, numbers, ended, reading, numbersIn}
+use Rattle.listing_numbers.specs.Decimals.{Reading, spoilt, between, inside, isBlank, withDigit, grows, grown, after, bad, numbers, ended, reading, numbersIn}
 use Rattle.listing_numbers.specs.States.{stateOf, bytesRead}
 use Rattle.listing_numbers.specs.Input.{maxInput, maxNumber, inputBlanks, inputText}
 use Rattle.listing_numbers.proofs.Reading.{input-short, input-long, reading-few}

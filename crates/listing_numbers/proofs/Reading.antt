@@ -17,7 +17,7 @@ use Rattle.base.specs.Tables.{fold}
 use Rattle.base.proofs.Bools.{and-both, and-no-left, and-no-right, by-test}
 use Rattle.base.proofs.Numbers.{within-is}
 use Rattle.base.proofs.Tabled.{fold-append, fold-last}
-use Rattle.listing_numbers.specs.Words.{Reading, spoilt, between, inside, isBlank, withDigit, grows, grown, after, bad, numbers, ended, reading, numbersIn, parsedInto, over, numbersStored}
+use Rattle.listing_numbers.specs.Decimals.{Reading, spoilt, between, inside, isBlank, withDigit, grows, grown, after, bad, numbers, ended, reading, numbersIn, parsedInto, over, numbersStored}
 use Rattle.listing_numbers.specs.States.{stateOf, grownState, nextState, bytesRead, foundBy, held, entries, begun, Fits}
 use Rattle.listing_numbers.specs.Input.{maxInput, maxNumber, inputBlanks, inputText}
 use Rattle.listing_numbers.specs.declared.Parsed.the-variants as Parsed·

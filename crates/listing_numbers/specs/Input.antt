@@ -5,7 +5,7 @@ use mathlib.Core.List.{List, [], _∷_}
 use lib.Dec.{leb}
 use lib.ListN.{length}
 use Rattle.base.specs.Counting.{pick}
-use Rattle.listing_numbers.specs.Words.{Text, bad, numbersIn}
+use Rattle.listing_numbers.specs.Decimals.{Text, bad, numbersIn}
 
 abbrev pub maxInput : ℕ
 maxInput = 16384

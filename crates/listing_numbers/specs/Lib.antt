@@ -1,3 +1,3 @@
-pub mod Words
+pub mod Decimals
 pub mod States
 pub mod Input

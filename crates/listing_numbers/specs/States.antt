@@ -3,7 +3,7 @@ use Prim.Native.Nat.{ℕ, _+_, _<_, _≤_}
 use mathlib.Core.List.{List, [], _∷_, _++_}
 use lib.ListN.{length, set}
 use Rattle.base.specs.Counting.{pick}
-use Rattle.listing_numbers.specs.Words.{Reading, spoilt, between, inside, isBlank, withDigit, grows}
+use Rattle.listing_numbers.specs.Decimals.{Reading, spoilt, between, inside, isBlank, withDigit, grows}
 use Rattle.listing_numbers.specs.declared.Found.{Found}
 use Rattle.listing_numbers.specs.declared.Found.the-variants as Found·
 use Rattle.listing_numbers.specs.declared.State.{State}

@@ -3,7 +3,7 @@ ghost use mathlib.Core.Path.{_≡_};
 ghost use Prim.Native.Nat.{_<_, _≤_};
 ghost use lib.ListN.{length};
 ghost use Rattle.base.specs.Lent.{before, after};
-ghost use Rattle.listing_numbers.specs.Words.{isBlank, withDigit, reading, over, numbersIn, Parses};
+ghost use Rattle.listing_numbers.specs.Decimals.{isBlank, withDigit, reading, over, numbersIn, Parses};
 ghost use Rattle.listing_numbers.specs.States.{grownState, nextState, bytesRead, stateOf, foundBy, held, entries, begun, Fits};
 ghost use Rattle.listing_numbers.specs.Input.{inputText};
 use crate::Found;

@@ -27,7 +27,7 @@ use Rattle.listing_numbers.specs.Input.{maxNumber}
 use Rattle.listing_job.specs.Form.{Step, lay, lift, Steps, misformed, steps, andThen, stepsIn, isWhole, listOf, stepEnd}
 use Rattle.listing_job.proofs.Forming.{Starts, layBy, liftBy, lays, lifts, step-at, not-cut, other-at, end-lay, end-lift}
 use Rattle.listing_lines.specs.Lines.{numberLine}
-use Rattle.listing_lines.specs.Pages.{Writes}
+use Rattle.listing_lines.specs.Pages.{Prints}
 use Rattle.listing_lines.proofs.Written.{writes-none, writes-then, writes-as}
 use Rattle.listing_steps.specs.Steps.{placeAt, answerTo, boardPast, answersText, boardIn}
 use Rattle.boundary.specs.Boundary.{layNumber, liftNumber}
@@ -106,7 +106,7 @@ module _ (j : Panel) (count : ℕ) (ns : List ℕ) (b₀ : Board) (l₀ : List S
   pub record Running (p q : ℕ) (b : Board) (y : List ℕ) : Type 0 where
     pub walks : Walks ns p
     pub boards : boardIn j count b (stepsFrom ns p) ≡ boardIn j count b₀ l₀
-    pub texts : (r : ℕ) (z : List ℕ) → Writes (answersText j count b (stepsFrom ns p)) q y r z → Writes (answersText j count b₀ l₀) at x r z
+    pub texts : (r : ℕ) (z : List ℕ) → Prints (answersText j count b (stepsFrom ns p)) q y r z → Prints (answersText j count b₀ l₀) at x r z
 
   pub running-turn : {p q r : ℕ} {b c : Board} {y z : List ℕ} → Running p q b y → p < length ns → Stepped j count b (stepAt ns p) q y r c z → Running (stepEnd ns p) r c z
   unfolding boardIn answersText fold
@@ -159,7 +159,7 @@ took-lift {w = w} j count b s row col e p g q =
     })
 
 pub stepped : {n at r : ℕ} {x y : List ℕ} {c : Board} (j : Panel) (count : ℕ) (b : Board) (s : Step) → Gives (answerTo j count b s) (boardPast j count b s) n c
-    → Writes (numberLine n) at x r y → Stepped j count b s at x r c y
+    → Prints (numberLine n) at x r y → Stepped j count b s at x r c y
 stepped j count b s g w = record { leaves = g .leaves; writes = writes-as (ap numberLine (g .answered)) w }
 
 -- a number of the input as a coordinate

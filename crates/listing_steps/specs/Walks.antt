@@ -12,7 +12,7 @@ use Rattle.listing_numbers.specs.Input.{maxNumber}
 use Rattle.listing_job.specs.Form.{Step, lay, lift, stepsIn, listOf, isWhole}
 use Rattle.listing_job.specs.declared.Setup.{Setup}
 use Rattle.listing_lines.specs.Lines.{numberLine}
-use Rattle.listing_lines.specs.Pages.{Writes}
+use Rattle.listing_lines.specs.Pages.{Prints}
 use Rattle.listing_end.specs.Ending.{panelWith}
 use Rattle.listing_steps.specs.Steps.{answerTo, boardPast, answersText, boardIn}
 
@@ -40,12 +40,12 @@ stepsFrom ns p = listOf (stepsIn (drop p ns))
 -- one step: the board that it leaves, and its answer on a line
 pub record Stepped (j : Panel) (count : ℕ) (b : Board) (s : Step) (at : ℕ) (x : List ℕ) (r : ℕ) (c : Board) (y : List ℕ) : Type 0 where
   pub leaves : c ≡ boardPast j count b s
-  pub writes : Writes (numberLine (answerTo j count b s)) at x r y
+  pub writes : Prints (numberLine (answerTo j count b s)) at x r y
 
 -- all steps
 pub record Ran (j : Panel) (count : ℕ) (b : Board) (l : List Step) (at : ℕ) (x : List ℕ) (r : ℕ) (c : Board) (y : List ℕ) : Type 0 where
   pub leaves : c ≡ boardIn j count b l
-  pub writes : Writes (answersText j count b l) at x r y
+  pub writes : Prints (answersText j count b l) at x r y
 
 -- the two as promises of calls, over lent planes and a lent page, for a job with these tiles
 abbrev pub StepsOn : Setup → List ℕ → Step → Lent (List ℕ) → Lent (List ℕ) → Lent (List ℕ) → ℕ → Lent (List ℕ) → ℕ → Type 0

@@ -5,10 +5,10 @@ use Prim.Native.Nat.{ℕ}
 use mathlib.Core.Path.{_≡_}
 use mathlib.Core.List.{List}
 use Rattle.io.specs.Counts.{Counts}
-use Rattle.listing_lines.specs.Pages.{Writes}
-use Rattle.listing_lines.proofs.Coincide.{writes-coincide}
+use Rattle.listing_lines.specs.Pages.{Prints}
+use Rattle.listing_lines.proofs.Coincide.{prints-coincide}
 use Rattle.listing_text.specs.Printed.{printed}
 
-pub list-coincides : {x y z : List ℕ} {r s : ℕ} (input : List ℕ) → Counts r y × Writes (printed input) 0 x r y
-    → Counts s z × Writes (printed input) 0 x s z → (r ≡ s) × (y ≡ z)
-list-coincides input p q = writes-coincide (p .1) (q .1)
+pub list-coincides : {x y z : List ℕ} {r s : ℕ} (input : List ℕ) → Counts r y × Prints (printed input) 0 x r y
+    → Counts s z × Prints (printed input) 0 x s z → (r ≡ s) × (y ≡ z)
+list-coincides input p q = prints-coincide (p .1) (q .1)

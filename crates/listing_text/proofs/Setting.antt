@@ -17,7 +17,7 @@ use Rattle.base.proofs.Numbers.{mul-le, within-is}
 use Rattle.base.proofs.Counted.{every-ext}
 use Rattle.base.proofs.Tabled.{length-tab, getD-tab}
 use Rattle.base.proofs.Chain.{all-pass, none-fails}
-use Rattle.rules.specs.Tests.{hasLength, tilesIn, tileNumber, wholeTiles, colourCount, entryUpTo, noneAbove}
+use Rattle.rules.specs.Tests.{hasLength, tilesIn, tileNumberFits, wholeTiles, colourCount, entryUpTo, noneAbove}
 use Rattle.rules.specs.Answers.{tileAnswer}
 use Rattle.rules.specs.Tiles.{startsAlong, forms, variants, variant, distinct, extracted, storeWith, sampleChecks, roomCheck, extraction, storeAfter}
 use Rattle.rules.specs.Promises.{Extracts}
@@ -70,7 +70,7 @@ module _ (sample : List ℕ) (rows cols : ℕ) (rotations reflections : Bool) (t
       (omega (arith, w .1), omega (arith, h .1), omega (arith, w .1, w .2, variants-few))
 
   pub tiles-whole : wholeTiles tiles ≡ true
-  unfolding wholeTiles tileNumber
+  unfolding wholeTiles tileNumberFits
   tiles-whole =
       let w = tiles-counted in
       and-both (eqb (length tiles % 9) 0) (within 1 7200 (tilesIn tiles))

@@ -23,7 +23,7 @@ use Rattle.rules.specs.declared.Written.{Written}
 use Rattle.rules.specs.declared.TileNumber.{TileNumber}
 use Rattle.rules.specs.declared.TileNumber.the-variants as TileNumber·
 use Rattle.check_sizes.proofs.Sides.{whole-number}
-use Rattle.listing_numbers.specs.Words.{Text, bad, numbers, parsedInto, over, numbersStored, Parses}
+use Rattle.listing_numbers.specs.Decimals.{Text, bad, numbers, parsedInto, over, numbersStored, Parses}
 use Rattle.listing_numbers.specs.Input.{inputText}
 use Rattle.listing_job.specs.Form.{Step, stepsIn, isWhole, maxSample, maxBoard, sidesUpTo, headFits, sampleCells, tailFits, isFormed, setupOf, sampleIn, stepNumbers, formOf}
 use Rattle.listing_numbers.specs.declared.Parsed.{Parsed}
@@ -33,7 +33,7 @@ use Rattle.listing_job.specs.declared.Form.the-variants as Form·
 use Rattle.listing_job.specs.declared.Setup.{Setup}
 use Rattle.listing_job.proofs.Forming.{formed-head, formed-tail, head-sides, sides-up, few-cells}
 use Rattle.listing_numbers.proofs.Meaning.{input-few, input-small}
-use Rattle.listing_lines.specs.Pages.{placeAfter, Writes}
+use Rattle.listing_lines.specs.Pages.{placeAfter, Prints}
 use Rattle.listing_lines.proofs.Written.{length-page, writes-then, writes-as}
 use Rattle.listing_steps.specs.Steps.{answersText, boardIn}
 use Rattle.listing_text.specs.Printed.{badLine, runText, freshFor, freshRun, unlessNumber, setupRefusal, tilesOf, jobText, numbersText, textFor, printed}
@@ -59,8 +59,8 @@ fresh-passes j b p =
     none-fails _ y
 
 pub ran-fresh : {a : Written} {p r : ℕ} {x y z : List ℕ} {c₀ c : Board} (j : Panel) (count : ℕ) (b : Board) (l : List Step) → Planes j b
-    → Freshens (j .rows) (j .cols) (tilesIn (j .tiles)) b a c₀ → Ran j count c₀ l 0 x p c y → Writes (endText j count c) p y r z
-    → Writes (runText j count (freshFor j) l) 0 x r z
+    → Freshens (j .rows) (j .cols) (tilesIn (j .tiles)) b a c₀ → Ran j count c₀ l 0 x p c y → Prints (endText j count c) p y r z
+    → Prints (runText j count (freshFor j) l) 0 x r z
 unfolding runText freshFor
 ran-fresh j count b l p e w f =
     let q = e .leaves ∙ has-new _ _ b (fresh-passes j b p) in
@@ -168,8 +168,8 @@ module _ (ns : List ℕ) (s : Setup) (f : Formed ns s) where
           ap wholeTiles tiles-are ∙ tiles-whole (sampleIn ns) (s .sample .rows) (s .sample .cols) (s .rotations) (s .reflections) tall broad
 
       pub job-done : {r : ℕ} {y z : List ℕ}
-          → Writes (freshRun s (take (n * 9) x) (stepsFrom ns (s .sample .rows * s .sample .cols + 7))) 0 y r z
-          → Writes (jobText ns s) 0 y r z
+          → Prints (freshRun s (take (n * 9) x) (stepsFrom ns (s .sample .rows * s .sample .cols + 7))) 0 y r z
+          → Prints (jobText ns s) 0 y r z
       unfolding jobText stepNumbers
       job-done w =
           let q : setupRefusal ns s ≡ 0 =
@@ -260,7 +260,7 @@ module _ (input d : List ℕ) (a : Parsed) (x : List ℕ) (room : length d ≡ 8
       absurd (never-full (length d) (inputText input) (λ ns q. omega (arith, room, input-few input ns q)) (sym (g .answered) ∙ e))
 
 -- ---- the call
-pub writes-counts : (t : List ℕ) (x : List ℕ) (r : ℕ) (y : List ℕ) → Writes t 0 x r y → Counts r y × Writes t 0 x r y
+pub writes-counts : (t : List ℕ) (x : List ℕ) (r : ℕ) (y : List ℕ) → Prints t 0 x r y → Counts r y × Prints t 0 x r y
 unfolding placeAfter
 writes-counts t x r y w =
     let n : length y ≡ length x = ap length (w .bytes) ∙ length-page t 0 x in

@@ -19,7 +19,7 @@ use Rattle.rules.specs.Board.{Panel, Board, raised, lowered, recounted, laid, l
 use Rattle.rules.specs.declared.Cell.{Cell}
 use Rattle.rules.specs.declared.DeadEnd.{DeadEnd}
 use Rattle.rules.specs.declared.DeadEnd.the-variants as DeadEnd·
-use Rattle.listing_numbers.specs.Words.{Text, bad, numbers}
+use Rattle.listing_numbers.specs.Decimals.{Text, bad, numbers}
 use Rattle.listing_numbers.specs.Input.{inputText}
 use Rattle.listing_job.specs.Form.{Step, lay, lift, Steps, misformed, steps, stepsIn, listOf, isWhole, maxBoard, sidesUpTo, sampleCells, tailFits, isFormed, setupOf, stepNumbers}
 use Rattle.listing_job.specs.declared.Setup.{Setup}
@@ -27,7 +27,7 @@ use Rattle.listing_numbers.proofs.Meaning.{input-few}
 use Rattle.listing_job.proofs.Meaning.{spelled, steps-are}
 use Rattle.listing_job.proofs.Forming.{formed-tail}
 use Rattle.listing_lines.specs.Lines.{numberLine}
-use Rattle.listing_lines.specs.Pages.{Writes}
+use Rattle.listing_lines.specs.Pages.{Prints}
 use Rattle.listing_lines.proofs.Texts.{decimal-length, line-length, plane-length}
 use Rattle.listing_lines.proofs.Written.{writes-all}
 use Rattle.listing_steps.specs.Steps.{answerTo, boardPast, answersText, boardIn}
@@ -167,7 +167,7 @@ printed-length input = go (inputText input) refl
     go (numbers ns) e = numbers-length ns (input-few input ns e)
 
 -- so a buffer of that length starts with the whole of it
-pub printed-whole : (input d : List ℕ) (r : ℕ) (x : List ℕ) → length d ≡ 65536 → Writes (printed input) 0 d r x → take r x ≡ printed input
+pub printed-whole : (input d : List ℕ) (r : ℕ) (x : List ℕ) → length d ≡ 65536 → Prints (printed input) 0 d r x → take r x ≡ printed input
 printed-whole input d r x e w =
     let q = writes-all (printed input) d r x w (omega (arith, printed-length input)) in
     ap (take r) (q .1) ∙ take-at (printed input) (drop (length (printed input)) d) r (sym (q .0))

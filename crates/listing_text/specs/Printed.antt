@@ -7,7 +7,7 @@ use Rattle.base.specs.Refusal.{refusal}
 use Rattle.rules.specs.Tests.{tilesIn}
 use Rattle.rules.specs.Tiles.{sampleChecks, extracted}
 use Rattle.rules.specs.Board.{Panel, Board, freshBoard}
-use Rattle.listing_numbers.specs.Words.{Text, bad, numbers}
+use Rattle.listing_numbers.specs.Decimals.{Text, bad, numbers}
 use Rattle.listing_numbers.specs.Input.{inputText}
 use Rattle.listing_job.specs.Form.{Step, isFormed, setupOf, sampleIn, stepNumbers, stepsIn, listOf}
 use Rattle.listing_job.specs.declared.Setup.{Setup}

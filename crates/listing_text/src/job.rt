@@ -6,7 +6,7 @@ ghost use lib.ListN.{length};
 ghost use Rattle.rules.specs.Tests.{wholeTiles};
 ghost use Rattle.rules.specs.Promises.{before, after, board};
 ghost use Rattle.listing_job.specs.Form.{maxBoard, sidesUpTo};
-ghost use Rattle.listing_lines.specs.Pages.{Writes};
+ghost use Rattle.listing_lines.specs.Pages.{Prints};
 ghost use Rattle.listing_end.specs.Ending.{panelWith};
 ghost use Rattle.listing_text.specs.Printed.{freshRun, jobText};
 ghost use Rattle.listing_steps.specs.Walks.{Walks, stepsFrom};
@@ -55,7 +55,7 @@ fn run(
     from: usize,
 ) -> usize
     requires { ⌜ (Planes (panelWith setup (now tiles)) (board (now pieces) (now weights) (now counts))) × (Walks (now numbers) from) ⌝ }
-    ensures { λ r. ⌜ Writes (freshRun setup (before tiles) (stepsFrom (before numbers) from)) 0 (before out) r (after out) ⌝ }
+    ensures { λ r. ⌜ Prints (freshRun setup (before tiles) (stepsFrom (before numbers) from)) 0 (before out) r (after out) ⌝ }
 {
     let rows = setup.board.rows;
     let cols = setup.board.cols;
@@ -74,7 +74,7 @@ fn run(
 // The planes, 1,024 equal entries each, of which the board takes as many as it has cells.
 fn run_on_planes(out: &mut [u8], tiles: &[u8], setup: Setup, numbers: &[u32], from: usize) -> usize
     requires { ⌜ (wholeTiles (now tiles) ≡ true) × (sidesUpTo maxBoard (setup .board .rows) (setup .board .cols) ≡ true) × (Walks (now numbers) from) ⌝ }
-    ensures { λ r. ⌜ Writes (freshRun setup (before tiles) (stepsFrom (before numbers) from)) 0 (before out) r (after out) ⌝ }
+    ensures { λ r. ⌜ Prints (freshRun setup (before tiles) (stepsFrom (before numbers) from)) 0 (before out) r (after out) ⌝ }
 {
     let cells = setup.board.rows * setup.board.cols;
     let mut pieces = [1u32; 1024];
@@ -95,7 +95,7 @@ fn run_on_planes(out: &mut [u8], tiles: &[u8], setup: Setup, numbers: &[u32], fr
 // A job whose numbers are of the form; the sample is a store for its cells as bytes.
 fn list_sample(out: &mut [u8], sample: &mut [u8], numbers: &[u32], setup: Setup) -> usize
     requires { ⌜ (Formed (now numbers) setup) × (length (now sample) ≡ setup .sample .rows * setup .sample .cols) ⌝ }
-    ensures { λ r. ⌜ Writes (jobText (before numbers) setup) 0 (before out) r (after out) ⌝ }
+    ensures { λ r. ⌜ Prints (jobText (before numbers) setup) 0 (before out) r (after out) ⌝ }
 {
     copy_cells(sample, numbers);
     let mut store = [0u8; STORE];
@@ -123,7 +123,7 @@ fn list_sample(out: &mut [u8], sample: &mut [u8], numbers: &[u32], setup: Setup)
 
 pub fn list_job(out: &mut [u8], numbers: &[u32], setup: Setup) -> usize
     requires { ⌜ Formed (now numbers) setup ⌝ }
-    ensures { λ r. ⌜ Writes (jobText (before numbers) setup) 0 (before out) r (after out) ⌝ }
+    ensures { λ r. ⌜ Prints (jobText (before numbers) setup) 0 (before out) r (after out) ⌝ }
 {
     let cells = setup.sample.rows * setup.sample.cols;
     let mut sample = [0u8; SAMPLE_CELLS];

@@ -3,7 +3,7 @@ mod job;
 
 ghost use Rattle.io.specs.Counts.{Counts};
 ghost use Rattle.base.specs.Lent.{before, after};
-ghost use Rattle.listing_lines.specs.Pages.{Writes};
+ghost use Rattle.listing_lines.specs.Pages.{Prints};
 ghost use Rattle.listing_text.specs.Printed.{badLine, numbersText, printed};
 ghost use Rattle.listing_steps.specs.Walks.{Small};
 use listing_job::Form;
@@ -19,14 +19,14 @@ pub const INPUT_ROOM: usize = listing_numbers::MAX_INPUT + 1;
 const MAX_NUMBERS: usize = listing_numbers::MAX_INPUT / 2;
 
 fn put_bad_input(out: &mut [u8]) -> usize
-    ensures { λ r. ⌜ Writes badLine 0 (before out) r (after out) ⌝ }
+    ensures { λ r. ⌜ Prints badLine 0 (before out) r (after out) ⌝ }
 {
     listing_lines::put_text(out, 0, b"bad input\n")
 }
 
 fn list_numbers(out: &mut [u8], numbers: &[u32]) -> usize
     requires { ⌜ Small (now numbers) ⌝ }
-    ensures { λ r. ⌜ Writes (numbersText (before numbers)) 0 (before out) r (after out) ⌝ }
+    ensures { λ r. ⌜ Prints (numbersText (before numbers)) 0 (before out) r (after out) ⌝ }
 {
     let form = listing_job::form_of(numbers);
     let Form::Whole(setup) = form else {
@@ -36,7 +36,7 @@ fn list_numbers(out: &mut [u8], numbers: &[u32]) -> usize
 }
 
 fn list_input(out: &mut [u8], input: &[u8]) -> usize
-    ensures { λ r. ⌜ Writes (printed (before input)) 0 (before out) r (after out) ⌝ }
+    ensures { λ r. ⌜ Prints (printed (before input)) 0 (before out) r (after out) ⌝ }
 {
     let mut store = [0u32; MAX_NUMBERS];
     let parsed = listing_numbers::read_input(&mut store, input);
@@ -51,7 +51,7 @@ fn list_input(out: &mut [u8], input: &[u8]) -> usize
 // as much of it as fits.
 pub fn list(input: &[u8], out: &mut [u8]) -> usize
     ensures { λ r. ⌜ Counts r (after out) ⌝ }
-    ensures { λ r. ⌜ Writes (printed (before input)) 0 (before out) r (after out) ⌝ }
+    ensures { λ r. ⌜ Prints (printed (before input)) 0 (before out) r (after out) ⌝ }
 {
     list_input(out, input)
 }

@@ -7,13 +7,13 @@ use rules::BoundingBox;
 use rules::Verdict;
 use rules::World;
 
-pub fn in_box(bounds: BoundingBox, position: World) -> bool
-    ensures { λ r. ⌜ r ≡ inBox bounds position ⌝ }
+pub fn in_box(bounds: BoundingBox, place: World) -> bool
+    ensures { λ r. ⌜ r ≡ inBox bounds place ⌝ }
 {
     let min = bounds.min;
     let max = bounds.max;
-    if in_range(min.0, max.0, position.0) {
-        in_range(min.1, max.1, position.1)
+    if in_range(min.0, max.0, place.0) {
+        in_range(min.1, max.1, place.1)
     } else {
         false
     }
@@ -28,14 +28,14 @@ pub fn box_fits(bounds: BoundingBox) -> bool
     if on_wall(min) { on_wall(max) } else { false }
 }
 
-pub fn contains(bounds: BoundingBox, position: World) -> Verdict
-    ensures { λ r. ⌜ r ≡ boxContains bounds position ⌝ }
+pub fn contains(bounds: BoundingBox, place: World) -> Verdict
+    ensures { λ r. ⌜ r ≡ boxContains bounds place ⌝ }
 {
     if !box_fits(bounds) {
         return Verdict::Refused(rules::PLACE);
     }
-    if !on_wall(position) {
+    if !on_wall(place) {
         return Verdict::Refused(rules::PLACE);
     }
-    Verdict::Is(in_box(bounds, position))
+    Verdict::Is(in_box(bounds, place))
 }

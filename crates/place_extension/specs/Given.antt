@@ -8,11 +8,11 @@ use Rattle.rules.specs.declared.World.{World}
 use Rattle.rules.specs.declared.Offset.{Offset}
 use Rattle.rules.specs.declared.Pads.{Pads}
 
-pub record Reached (rows cols : ℕ) (o : Offset) (w : World) (k : ℕ) : Type 0 where
+pub record Reached (rows cols : ℕ) (offset : Offset) (place : World) (k : ℕ) : Type 0 where
   pub sides : boardSides rows cols ≡ true
   pub near : k ≤ maxRadius
-  pub walled : onWall w ≡ true
-  pub fitting : offsetFits o ≡ true
+  pub walled : onWall place ≡ true
+  pub fitting : offsetFits offset ≡ true
 
 -- more than any pad of an accepted call (2,000,063); a pad up to this, added to an offset, fits 32 bits
 abbrev pub maxPad : ℕ

@@ -10,19 +10,13 @@ use rules::World;
 mod pads;
 
 // The checks of both calls; 0 where all pass.
-fn extension_refused(
-    rows: usize,
-    cols: usize,
-    offset: Offset,
-    coordinates: World,
-    radius: usize,
-) -> u8
-    ensures { λ r. ⌜ r ≡ refusal (extensionChecks rows cols offset coordinates radius) ⌝ }
+fn extension_refused(rows: usize, cols: usize, offset: Offset, place: World, radius: usize) -> u8
+    ensures { λ r. ⌜ r ≡ refusal (extensionChecks rows cols offset place radius) ⌝ }
 {
     if !check_sizes::board_sides(rows, cols) {
         return rules::SHAPE;
     }
-    place_spans::region_refused(offset, coordinates, radius)
+    place_spans::region_refused(offset, place, radius)
 }
 
 // How far a grid must grow to hold a place with a radius round it.
@@ -30,16 +24,16 @@ pub fn calculate_extension(
     rows: usize,
     cols: usize,
     offset: Offset,
-    coordinates: World,
+    place: World,
     radius: usize,
 ) -> ExtensionAnswer
-    ensures { λ r. ⌜ r ≡ extensionOf rows cols offset coordinates radius ⌝ }
+    ensures { λ r. ⌜ r ≡ extensionOf rows cols offset place radius ⌝ }
 {
-    let refused = extension_refused(rows, cols, offset, coordinates, radius);
+    let refused = extension_refused(rows, cols, offset, place, radius);
     if refused != 0 {
         return ExtensionAnswer::Refused(refused);
     }
-    let wanted = pads::pads_of(rows, cols, offset, coordinates, radius);
+    let wanted = pads::pads_of(rows, cols, offset, place, radius);
     ExtensionAnswer::Extension(pads::extension_by(offset, wanted))
 }
 
@@ -48,20 +42,20 @@ pub fn constrained_extension(
     rows: usize,
     cols: usize,
     offset: Offset,
-    coordinates: World,
+    place: World,
     radius: usize,
     bounds: BoundingBox,
 ) -> ExtensionAnswer
-    ensures { λ r. ⌜ r ≡ boxedExtension rows cols offset coordinates radius bounds ⌝ }
+    ensures { λ r. ⌜ r ≡ boxedExtension rows cols offset place radius bounds ⌝ }
 {
-    let refused = extension_refused(rows, cols, offset, coordinates, radius);
+    let refused = extension_refused(rows, cols, offset, place, radius);
     if refused != 0 {
         return ExtensionAnswer::Refused(refused);
     }
     if !place_boxes::box_fits(bounds) {
         return ExtensionAnswer::Refused(rules::PLACE);
     }
-    let wanted = pads::pads_of(rows, cols, offset, coordinates, radius);
+    let wanted = pads::pads_of(rows, cols, offset, place, radius);
     let granted = pads::constrain_pads(bounds, rows, cols, offset, wanted);
     ExtensionAnswer::Extension(pads::extension_by(offset, granted))
 }

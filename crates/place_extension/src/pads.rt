@@ -55,15 +55,15 @@ fn boxed_after(most: i32, side: usize, offset: i32, pad: usize) -> usize
     less(pad, places::clip_to(last + pad as i64 - most as i64))
 }
 
-pub fn pads_of(rows: usize, cols: usize, offset: Offset, coordinates: World, radius: usize) -> Pads
-    requires { ⌜ Reached rows cols offset coordinates radius ⌝ }
-    ensures { λ r. ⌜ r ≡ padsOf rows cols offset coordinates radius ⌝ }
+pub fn pads_of(rows: usize, cols: usize, offset: Offset, place: World, radius: usize) -> Pads
+    requires { ⌜ Reached rows cols offset place radius ⌝ }
+    ensures { λ r. ⌜ r ≡ padsOf rows cols offset place radius ⌝ }
 {
     Pads {
-        left: pad_before(coordinates.0, offset.0, radius),
-        right: pad_after(rows, coordinates.0, offset.0, radius),
-        top: pad_before(coordinates.1, offset.1, radius),
-        bottom: pad_after(cols, coordinates.1, offset.1, radius),
+        left: pad_before(place.0, offset.0, radius),
+        right: pad_after(rows, place.0, offset.0, radius),
+        top: pad_before(place.1, offset.1, radius),
+        bottom: pad_after(cols, place.1, offset.1, radius),
     }
 }
 

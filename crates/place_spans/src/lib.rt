@@ -25,13 +25,13 @@ fn span_along(coordinate: i32, offset: i32, radius: usize) -> Span
 }
 
 // The refusal of a radius round a place, which may lie off the board; 0 where there is none.
-pub fn region_refused(offset: Offset, coordinates: World, radius: usize) -> u8
-    ensures { λ r. ⌜ r ≡ refusal (spanChecks offset coordinates radius) ⌝ }
+pub fn region_refused(offset: Offset, place: World, radius: usize) -> u8
+    ensures { λ r. ⌜ r ≡ refusal (spanChecks offset place radius) ⌝ }
 {
     if radius > rules::MAX_RADIUS {
         return rules::SHAPE;
     }
-    if !on_wall(coordinates) {
+    if !on_wall(place) {
         return rules::PLACE;
     }
     if !offset_fits(offset) {
@@ -40,14 +40,14 @@ pub fn region_refused(offset: Offset, coordinates: World, radius: usize) -> u8
     0
 }
 
-pub fn get_region_spans(offset: Offset, coordinates: World, radius: usize) -> SpanAnswer
-    ensures { λ r. ⌜ r ≡ regionSpans offset coordinates radius ⌝ }
+pub fn get_region_spans(offset: Offset, place: World, radius: usize) -> SpanAnswer
+    ensures { λ r. ⌜ r ≡ regionSpans offset place radius ⌝ }
 {
-    let refused = region_refused(offset, coordinates, radius);
+    let refused = region_refused(offset, place, radius);
     if refused != 0 {
         return SpanAnswer::Refused(refused);
     }
-    let rows = span_along(coordinates.0, offset.0, radius);
-    let cols = span_along(coordinates.1, offset.1, radius);
+    let rows = span_along(place.0, offset.0, radius);
+    let cols = span_along(place.1, offset.1, radius);
     SpanAnswer::Spans(rows, cols)
 }

@@ -18,7 +18,7 @@ use Rattle.base.proofs.Signs.{index-clip, index-pos, ranged}
 use Rattle.rules.specs.Bounds.{minCoordinate, maxCoordinate, minOffset, maxOffset, maxRadius}
 use Rattle.rules.specs.Tests.{onWall, offsetFits, onBoard}
 use Rattle.rules.specs.Places.{cellOf, spanOf, spanChecks, regionSpans}
-use Rattle.rules.specs.Grid.{numberOf}
+use Rattle.rules.specs.Grid.{entryOf}
 use Rattle.rules.specs.Fit.{placeChecks}
 use Rattle.rules.specs.declared.World.{World}
 use Rattle.rules.specs.declared.Offset.{Offset}
@@ -104,8 +104,8 @@ module _ (rows cols : ℕ) (w : World) (o : Offset) (h : onBoard rows cols w o �
   unfolding cellOf
   col-below = index-clip cols (w .1 +ℤ o .1) col-on
 
-  pub number-below : numberOf cols (cellOf w o) < rows * cols
-  number-below = cell-lt row-below col-below
+  pub entry-below : entryOf cols (cellOf w o) < rows * cols
+  entry-below = cell-lt row-below col-below
 
   -- the spans round it
   pub row-span : (k : ℕ) → spanOf (w .0 +ℤ o .0) k ≡ spanRound (cellOf w o .0) k

@@ -30,16 +30,21 @@ fn both_in_range(least: i32, most: i32, x: i32, y: i32) -> bool
     }
 }
 
-pub fn on_wall(w: World) -> bool
-    ensures { λ r. ⌜ r ≡ onWall w ⌝ }
+pub fn on_wall(place: World) -> bool
+    ensures { λ r. ⌜ r ≡ onWall place ⌝ }
 {
-    both_in_range(rules::MIN_COORDINATE, rules::MAX_COORDINATE, w.0, w.1)
+    both_in_range(
+        rules::MIN_COORDINATE,
+        rules::MAX_COORDINATE,
+        place.0,
+        place.1,
+    )
 }
 
-pub fn offset_fits(o: Offset) -> bool
-    ensures { λ r. ⌜ r ≡ offsetFits o ⌝ }
+pub fn offset_fits(offset: Offset) -> bool
+    ensures { λ r. ⌜ r ≡ offsetFits offset ⌝ }
 {
-    both_in_range(rules::MIN_OFFSET, rules::MAX_OFFSET, o.0, o.1)
+    both_in_range(rules::MIN_OFFSET, rules::MAX_OFFSET, offset.0, offset.1)
 }
 
 // The larger of 0 and z.
@@ -81,33 +86,36 @@ fn on_side(side: usize, coordinate: i32, offset: i32) -> bool
     index_below(side, signed_index(coordinate, offset))
 }
 
-pub fn on_board(rows: usize, cols: usize, w: World, o: Offset) -> bool
-    ensures { λ r. ⌜ r ≡ onBoard rows cols w o ⌝ }
+pub fn on_board(rows: usize, cols: usize, place: World, offset: Offset) -> bool
+    ensures { λ r. ⌜ r ≡ onBoard rows cols place offset ⌝ }
 {
-    if on_side(rows, w.0, o.0) {
-        on_side(cols, w.1, o.1)
+    if on_side(rows, place.0, offset.0) {
+        on_side(cols, place.1, offset.1)
     } else {
         false
     }
 }
 
-pub fn cell_of(w: World, o: Offset) -> Cell
-    ensures { λ r. ⌜ r ≡ cellOf w o ⌝ }
+pub fn cell_of(place: World, offset: Offset) -> Cell
+    ensures { λ r. ⌜ r ≡ cellOf place offset ⌝ }
 {
-    Cell(index_along(w.0, o.0), index_along(w.1, o.1))
+    Cell(
+        index_along(place.0, offset.0),
+        index_along(place.1, offset.1),
+    )
 }
 
 // The refusal of a place that has to lie on the board, 0 where there is none.
-pub fn place_refused(rows: usize, cols: usize, w: World, o: Offset) -> u8
-    ensures { λ r. ⌜ r ≡ refusal (placeChecks rows cols w o) ⌝ }
+pub fn place_refused(rows: usize, cols: usize, place: World, offset: Offset) -> u8
+    ensures { λ r. ⌜ r ≡ refusal (placeChecks rows cols place offset) ⌝ }
 {
-    if !on_wall(w) {
+    if !on_wall(place) {
         return rules::PLACE;
     }
-    if !offset_fits(o) {
+    if !offset_fits(offset) {
         return rules::PLACE;
     }
-    if !on_board(rows, cols, w, o) {
+    if !on_board(rows, cols, place, offset) {
         return rules::PLACE;
     }
     0

@@ -22,7 +22,7 @@ use Rattle.check_sizes.proofs.Sides.{board-rows, board-cols, count-least, count
 use Rattle.rules.specs.Floats.{zero64, one64, over, floatOf, isNumber, isFinite, noNan, allAre}
 use Rattle.rules.specs.Tests.{onBoard}
 use Rattle.rules.specs.Places.{cellOf}
-use Rattle.rules.specs.Grid.{numberOf}
+use Rattle.rules.specs.Grid.{entryOf}
 use Rattle.rules.specs.Probabilities.{Region, Block, regionOf, inRegion, inBlock, influence, productAt, quotientAt, changedBy, multiplied, divided, influenceChecks, largestOf, totalOf, usable, normalised, probabilitiesAt, normaliseChecks}
 use Rattle.rules.specs.Promises.{Normalises, Multiplies, Divides}
 use Rattle.rules.proofs.Answered.{was-written}
@@ -31,7 +31,7 @@ use Rattle.rules.specs.declared.Offset.{Offset}
 use Rattle.rules.specs.declared.Written.the-variants.{Done}
 use Rattle.rules.proofs.Floats.{finite-number, times-finite, over-finite, over-positive, count-positive, is-finite, is-number, all-at, all-tab, one-finite}
 use Rattle.probability_normal.proofs.Normal.{map-tab, shares, uniform}
-use Rattle.places.proofs.Indices.{number-below}
+use Rattle.places.proofs.Indices.{entry-below}
 use Rattle.probabilities.proofs.Accept.{NormalPasses, normal-passes, StepPasses, step-passes}
 use Rattle.probabilities.proofs.Total.{usable-positive, total-positive}
 
@@ -134,12 +134,12 @@ module _ (plane : List Float) (rows cols count : ℕ) (w : World) (o : Offset) (
 
   -- the probabilities of a place are numbers: entries of the plane, or zeros
   place-numbers : NormalPasses plane out rows cols count → (t : ℕ) → t < count
-      → isNumber (pick (onBoard rows cols w o) (getD plane (t * (rows * cols) + numberOf cols (cellOf w o)) nan) zero64) ≡ true
+      → isNumber (pick (onBoard rows cols w o) (getD plane (t * (rows * cols) + entryOf cols (cellOf w o)) nan) zero64) ≡ true
   place-numbers n t h =
       by-test (onBoard rows cols w o)
       (λ e.
-      let at = t * (rows * cols) + numberOf cols (cellOf w o) in
-      rw e (all-at isNumber plane (n .numbers) at (subst (λ (m : ℕ). at < m) (sym (n .fits .long)) (cell-lt h (number-below rows cols w o e)))))
+      let at = t * (rows * cols) + entryOf cols (cellOf w o) in
+      rw e (all-at isNumber plane (n .numbers) at (subst (λ (m : ℕ). at < m) (sym (n .fits .long)) (cell-lt h (entry-below rows cols w o e)))))
       (λ e. rw e zero-number)
 
   pub normalised-numbers : {l : List Float} → Normalises plane rows cols count w o out Done l → allAre noNan l ≡ true
@@ -147,7 +147,7 @@ module _ (plane : List Float) (rows cols count : ℕ) (w : World) (o : Offset) (
   normalised-numbers done =
       let d = was-written (normaliseChecks plane rows cols count w o out) (normalised (probabilitiesAt plane rows cols count w o)) out done in
       let n = normal-passes plane out rows cols count w o (d .0) in
-      let f : ℕ → Float = λ t. pick (onBoard rows cols w o) (getD plane (t * (rows * cols) + numberOf cols (cellOf w o)) nan) zero64 in
+      let f : ℕ → Float = λ t. pick (onBoard rows cols w o) (getD plane (t * (rows * cols) + entryOf cols (cellOf w o)) nan) zero64 in
       let long = length-tab count f in
       let least = count-least count (n .colours) in
       let most = count-most count (n .colours) in

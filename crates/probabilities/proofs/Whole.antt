@@ -38,4 +38,4 @@ module _ (rows cols : ℕ) (w : World) (o : Offset) (k : ℕ) (p : Placed rows c
       let y = cellOf w o .1 in
       let ends : min (x + k + 1) rows ≤ rows = omega arith in
       rw (r-is, c-is)
-      (record { wide = board-cols rows cols e .0; down = omega arith; across = omega arith; ends = omega arith; room = mul-le-mul-right cols ends })
+      (record { wide = board-cols rows cols e .0; rowwise = omega arith; colwise = omega arith; ends = omega arith; room = mul-le-mul-right cols ends })

@@ -11,8 +11,8 @@ use Rattle.rules.specs.declared.Written.{Written}
 
 -- the call's new plane
 unfoldable pub stepped : Bool → ℕ → ℕ → Block → World → Offset → ℕ → List Float → List Float
-stepped false rows cols b w o k plane = multiplied rows cols b w o k plane
-stepped true rows cols b w o k plane = divided rows cols b w o k plane
+stepped false rows cols b place offset k plane = multiplied rows cols b place offset k plane
+stepped true rows cols b place offset k plane = divided rows cols b place offset k plane
 
 abbrev pub Changes : Bool → ℕ → ℕ → ℕ → Block → World → Offset → ℕ → List Float → Written → List Float → Type 0
-Changes reverse rows cols count b w o k old = Writes (influenceChecks old rows cols count b w o k) (stepped reverse rows cols b w o k old) old
+Changes reverse rows cols count b place offset k old = Writes (influenceChecks old rows cols count b place offset k) (stepped reverse rows cols b place offset k old) old

@@ -17,17 +17,17 @@ pub fn get_tile_probabilities_at_position(
     rows: usize,
     cols: usize,
     count: u32,
-    position: World,
+    place: World,
     offset: Offset,
     out: &mut [f64],
 ) -> Written
-    ensures { λ a. ⌜ Normalises (before probabilities) rows cols count position offset (before out) a (after out) ⌝ }
+    ensures { λ a. ⌜ Normalises (before probabilities) rows cols count place offset (before out) a (after out) ⌝ }
 {
-    let refused = normalise_refused(probabilities, rows, cols, count, position, offset, out);
+    let refused = normalise_refused(probabilities, rows, cols, count, place, offset, out);
     if refused != 0 {
         return Written::Refused(refused);
     }
-    take_place(probabilities, rows, cols, count, position, offset, out);
+    take_place(probabilities, rows, cols, count, place, offset, out);
     probability_normal::normalise(out, count);
     Written::Done
 }
@@ -41,11 +41,11 @@ fn change_probabilities(
     block: &[f64],
     brows: usize,
     bcols: usize,
-    position: World,
+    place: World,
     offset: Offset,
     radius: usize,
 ) -> Written
-    ensures { λ a. ⌜ Changes reverse rows cols count (blockOf brows bcols (before block)) position offset radius
+    ensures { λ a. ⌜ Changes reverse rows cols count (blockOf brows bcols (before block)) place offset radius
         (before probabilities) a (after probabilities) ⌝ }
 {
     let refused = step_refused(
@@ -56,7 +56,7 @@ fn change_probabilities(
         block,
         brows,
         bcols,
-        position,
+        place,
         offset,
         radius,
     );
@@ -64,12 +64,12 @@ fn change_probabilities(
         return Written::Refused(refused);
     }
     // A place that was not refused has spans.
-    let SpanAnswer::Spans(down, across) = place_spans::get_region_spans(offset, position, radius)
+    let SpanAnswer::Spans(rowround, colround) = place_spans::get_region_spans(offset, place, radius)
     else {
         return Written::Refused(rules::PLACE);
     };
-    let rowspan = probability_influence::clipped(rows, down);
-    let colspan = probability_influence::clipped(cols, across);
+    let rowspan = probability_influence::clipped(rows, rowround);
+    let colspan = probability_influence::clipped(cols, colround);
     probability_influence::change_colours(
         reverse,
         probabilities,
@@ -94,11 +94,11 @@ pub fn update_probabilities(
     block: &[f64],
     blockrows: usize,
     blockcols: usize,
-    position: World,
+    place: World,
     offset: Offset,
     radius: usize,
 ) -> Written
-    ensures { λ a. ⌜ Multiplies rows cols count (blockOf blockrows blockcols (before block)) position offset radius
+    ensures { λ a. ⌜ Multiplies rows cols count (blockOf blockrows blockcols (before block)) place offset radius
         (before probabilities) a (after probabilities) ⌝ }
 {
     change_probabilities(
@@ -110,7 +110,7 @@ pub fn update_probabilities(
         block,
         blockrows,
         blockcols,
-        position,
+        place,
         offset,
         radius,
     )
@@ -125,11 +125,11 @@ pub fn revert_probabilities(
     block: &[f64],
     blockrows: usize,
     blockcols: usize,
-    position: World,
+    place: World,
     offset: Offset,
     radius: usize,
 ) -> Written
-    ensures { λ a. ⌜ Divides rows cols count (blockOf blockrows blockcols (before block)) position offset radius
+    ensures { λ a. ⌜ Divides rows cols count (blockOf blockrows blockcols (before block)) place offset radius
         (before probabilities) a (after probabilities) ⌝ }
 {
     change_probabilities(
@@ -141,7 +141,7 @@ pub fn revert_probabilities(
         block,
         blockrows,
         blockcols,
-        position,
+        place,
         offset,
         radius,
     )

@@ -16,11 +16,11 @@ pub fn normalise_refused(
     rows: usize,
     cols: usize,
     count: u32,
-    position: World,
+    place: World,
     offset: Offset,
     out: &[f64],
 ) -> u8
-    ensures { λ r. ⌜ r ≡ refusal (normaliseChecks (before plane) rows cols count position offset (before out)) ⌝ }
+    ensures { λ r. ⌜ r ≡ refusal (normaliseChecks (before plane) rows cols count place offset (before out)) ⌝ }
 {
     if !check_sizes::board_sides(rows, cols) {
         return rules::SHAPE;
@@ -37,7 +37,7 @@ pub fn normalise_refused(
     if !check_contents::all_numbers(plane) {
         return rules::NUMBER;
     }
-    if !places::on_wall(position) {
+    if !places::on_wall(place) {
         return rules::PLACE;
     }
     if !places::offset_fits(offset) {
@@ -108,11 +108,11 @@ pub fn step_refused(
     block: &[f64],
     brows: usize,
     bcols: usize,
-    position: World,
+    place: World,
     offset: Offset,
     radius: usize,
 ) -> u8
-    ensures { λ r. ⌜ r ≡ refusal (influenceChecks (before plane) rows cols count (blockOf brows bcols (before block)) position offset radius) ⌝ }
+    ensures { λ r. ⌜ r ≡ refusal (influenceChecks (before plane) rows cols count (blockOf brows bcols (before block)) place offset radius) ⌝ }
 {
     let refused = sizes_refused(plane, rows, cols, count, block, brows, bcols, radius);
     if refused != 0 {
@@ -124,5 +124,5 @@ pub fn step_refused(
     if !check_contents::all_finite(block) {
         return rules::NUMBER;
     }
-    places::place_refused(rows, cols, position, offset)
+    places::place_refused(rows, cols, place, offset)
 }

@@ -13,7 +13,7 @@ use Rattle.rules.specs.Floats.{zero64}
 use Rattle.rules.specs.Probabilities.{probabilitiesAt}
 use Rattle.rules.specs.Tests.{onBoard}
 use Rattle.rules.specs.Places.{cellOf}
-use Rattle.rules.specs.Grid.{numberOf}
+use Rattle.rules.specs.Grid.{entryOf}
 use Rattle.rules.specs.declared.World.{World}
 use Rattle.rules.specs.declared.Offset.{Offset}
 use Rattle.rules.specs.declared.Cell.{Cell}
@@ -25,6 +25,6 @@ module _ (plane out : List Float) (rows cols count : ℕ) (w : World) (o : Offse
   off-board e = sym (map-tab (λ (_ : Float). zero64) out zero64 zero64) ∙ rw n (tab-ext count _ _ (λ t _. sym (pick-no _ _ _ e)))
 
   pub on-board : {k : Cell} → k ≡ cellOf w o → onBoard rows cols w o ≡ true
-      → tab (length out) (λ t. getD plane (t * (rows * cols) + numberOf cols k) nan) ≡ probabilitiesAt plane rows cols count w o
+      → tab (length out) (λ t. getD plane (t * (rows * cols) + entryOf cols k) nan) ≡ probabilitiesAt plane rows cols count w o
   unfolding probabilitiesAt
   on-board p e = rw (p, n) (tab-ext count _ _ (λ t _. sym (pick-yes _ _ _ e)))

@@ -109,17 +109,17 @@ pub fn take_place(
     rows: usize,
     cols: usize,
     count: u32,
-    position: World,
+    place: World,
     offset: Offset,
     out: &mut [f64],
 )
     requires { ⌜ PlaceFits (now plane) (now out) rows cols count ⌝ }
-    ensures { λ _. ⌜ after out ≡ probabilitiesAt (before plane) rows cols count position offset ⌝ }
+    ensures { λ _. ⌜ after out ≡ probabilitiesAt (before plane) rows cols count place offset ⌝ }
 {
-    if !places::on_board(rows, cols, position, offset) {
+    if !places::on_board(rows, cols, place, offset) {
         fill(out, 0.0);
         return;
     }
-    let cell = places::cell_of(position, offset);
+    let cell = places::cell_of(place, offset);
     gather(plane, rows * cols, cell.0 * cols + cell.1, out);
 }

@@ -10,7 +10,7 @@ use Rattle.rules.specs.declared.ForcedPipeline.{ForcedPipeline}
 use Rattle.rules.specs.declared.Grown.{Grown}
 use Rattle.rules.specs.declared.Taken.{Taken}
 use Rattle.rules.specs.declared.Verdict.{Verdict}
-use Rattle.rules.specs.declared.Number.{Number}
+use Rattle.rules.specs.declared.CountAnswer.{CountAnswer}
 use Rattle.rules.specs.declared.Next.{Next}
 use Rattle.rules.specs.declared.Written.{Written}
 use Rattle.queue.specs.Promises.{TakesFrom, AddsTo}
@@ -28,7 +28,7 @@ take-next queue p q = coincide p q
 pub is-empty : (queue : ForcedPipeline) {r s : Verdict} → r ≡ queueEmpty queue → s ≡ queueEmpty queue → r ≡ s
 is-empty queue p q = coincide p q
 
-pub len : (queue : ForcedPipeline) {r s : Number} → r ≡ queueLength queue → s ≡ queueLength queue → r ≡ s
+pub len : (queue : ForcedPipeline) {r s : CountAnswer} → r ≡ queueLength queue → s ≡ queueLength queue → r ≡ s
 len queue p q = coincide p q
 
 pub take-next-from : (old : ForcedPipeline) {r s : Next} {m n : ForcedPipeline} → TakesFrom old r m → TakesFrom old s n → (r ≡ s) × (m ≡ n)

@@ -13,7 +13,7 @@ use Rattle.rules.specs.Forced.{queued, offered, queueOf, isQueued, withPosition
 use Rattle.rules.specs.declared.ForcedPosition.{ForcedPosition}
 use Rattle.rules.specs.declared.ForcedPositions.{ForcedPositions}
 use Rattle.rules.specs.declared.ForcedPipeline.{ForcedPipeline}
-use Rattle.queue.specs.Runs.{newOnes, noneTwice, Call, adding, taking, left, comesIn, goesOut, positionIn, queueAfter, allIn, allOut}
+use Rattle.queue.specs.Runs.{newOnes, noneTwice, QueueCall, adding, taking, queueLeft, comesIn, goesOut, positionIn, queueAfter, allIn, allOut}
 use Rattle.queue_entries.proofs.Entries.{queued-of}
 use Rattle.queue_entries.proofs.Growth.{with-old, with-new, with-one, with-none}
 
@@ -52,34 +52,34 @@ first-out [] = refl
 first-out (e ∷ l) = append-nil (e ∷ l)
 
 taking-keeps : (q : ForcedPipeline) (n : ℕ) → n ≡ refusal (queueChecks q)
-    → queued q ++ comesIn q taking ≡ goesOut q taking ++ queued (left q taking)
-unfolding comesIn goesOut left takenFrom
+    → queued q ++ comesIn q taking ≡ goesOut q taking ++ queued (queueLeft q taking)
+unfolding comesIn goesOut queueLeft takenFrom
 taking-keeps q zero e =
     rw (sym e)
     (first-out (queued q) ∙ ap (λ (l : List ForcedPosition). positionIn (nextAnswer 0 (queued q)) ++ l) (sym (queued-of (drop 1 (queued q)))))
 taking-keeps q (suc n) e = rw (sym e) (append-nil (queued q))
 
 adding-keeps : (q : ForcedPipeline) (p : ForcedPositions) (n : ℕ) → n ≡ refusal (addChecks q p)
-    → queued q ++ comesIn q (adding p) ≡ goesOut q (adding p) ++ queued (left q (adding p))
-unfolding comesIn goesOut left grownBy
+    → queued q ++ comesIn q (adding p) ≡ goesOut q (adding p) ++ queued (queueLeft q (adding p))
+unfolding comesIn goesOut queueLeft grownBy
 adding-keeps q p zero e = rw (sym e) (sym (appended (queued q) (offered p)) ∙ sym (queued-of (withPositions (queued q) (offered p))))
 adding-keeps q p (suc n) e = rw (sym e) (append-nil (queued q))
 
-keeps : (q : ForcedPipeline) (c : Call) → queued q ++ comesIn q c ≡ goesOut q c ++ queued (left q c)
+keeps : (q : ForcedPipeline) (c : QueueCall) → queued q ++ comesIn q c ≡ goesOut q c ++ queued (queueLeft q c)
 keeps q (adding p) = adding-keeps q p (refusal (addChecks q p)) refl
 keeps q taking = taking-keeps q (refusal (queueChecks q)) refl
 
 -- first in, first out: over a run, what was queued and then all that comes in is, in this order, all that goes out and then what is left
-pub first-in-first-out : (q : ForcedPipeline) (cs : List Call) → queued q ++ allIn q cs ≡ allOut q cs ++ queued (queueAfter q cs)
+pub first-in-first-out : (q : ForcedPipeline) (cs : List QueueCall) → queued q ++ allIn q cs ≡ allOut q cs ++ queued (queueAfter q cs)
 unfolding allIn allOut queueAfter
 first-in-first-out q [] = append-nil (queued q)
 first-in-first-out q (c ∷ cs) =
-    sym (append-assoc (queued q) (comesIn q c) (allIn (left q c) cs))
-    ∙ ap (λ (l : List ForcedPosition). l ++ allIn (left q c) cs) (keeps q c)
-    ∙ append-assoc (goesOut q c) (queued (left q c)) (allIn (left q c) cs)
-    ∙ ap (λ (l : List ForcedPosition). goesOut q c ++ l) (first-in-first-out (left q c) cs)
-    ∙ sym (append-assoc (goesOut q c) (allOut (left q c) cs) (queued (queueAfter (left q c) cs)))
+    sym (append-assoc (queued q) (comesIn q c) (allIn (queueLeft q c) cs))
+    ∙ ap (λ (l : List ForcedPosition). l ++ allIn (queueLeft q c) cs) (keeps q c)
+    ∙ append-assoc (goesOut q c) (queued (queueLeft q c)) (allIn (queueLeft q c) cs)
+    ∙ ap (λ (l : List ForcedPosition). goesOut q c ++ l) (first-in-first-out (queueLeft q c) cs)
+    ∙ sym (append-assoc (goesOut q c) (allOut (queueLeft q c) cs) (queued (queueAfter (queueLeft q c) cs)))
 
 -- from a new queue on: what has gone out, and then what still waits, is what has come in
-pub from-new : (cs : List Call) → allIn (queueOf []) cs ≡ allOut (queueOf []) cs ++ queued (queueAfter (queueOf []) cs)
+pub from-new : (cs : List QueueCall) → allIn (queueOf []) cs ≡ allOut (queueOf []) cs ++ queued (queueAfter (queueOf []) cs)
 from-new cs = ap (λ (l : List ForcedPosition). l ++ allIn (queueOf []) cs) (sym (queued-of [])) ∙ first-in-first-out (queueOf []) cs

@@ -20,15 +20,15 @@ unfoldable pub noneTwice : List ForcedPosition → List ForcedPosition → Bool
 noneTwice before [] = true
 noneTwice before (e ∷ l) = not (isQueued (e .coordinates) before) && noneTwice (before ++ (e ∷ [])) l
 
-pub data Call : Type 0 where
-  adding : ForcedPositions → Call
-  taking : Call
+pub data QueueCall : Type 0 where
+  adding : ForcedPositions → QueueCall
+  taking : QueueCall
 
-unfoldable pub left : ForcedPipeline → Call → ForcedPipeline
-left q (adding p) = grownBy q p .queue
-left q taking = takenFrom q .queue
+unfoldable pub queueLeft : ForcedPipeline → QueueCall → ForcedPipeline
+queueLeft q (adding p) = grownBy q p .queue
+queueLeft q taking = takenFrom q .queue
 
-unfoldable pub comesIn : ForcedPipeline → Call → List ForcedPosition
+unfoldable pub comesIn : ForcedPipeline → QueueCall → List ForcedPosition
 comesIn q (adding p) = unlessRefused (refusal (addChecks q p)) (newOnes (queued q) (offered p)) []
 comesIn q taking = []
 
@@ -37,19 +37,19 @@ positionIn (Taken e) = e ∷ []
 positionIn Nothing = []
 positionIn (Refused n) = []
 
-unfoldable pub goesOut : ForcedPipeline → Call → List ForcedPosition
+unfoldable pub goesOut : ForcedPipeline → QueueCall → List ForcedPosition
 goesOut q (adding p) = []
 goesOut q taking = positionIn (takenFrom q .next)
 
 -- the same of a run, from its first call on
-unfoldable pub queueAfter : ForcedPipeline → List Call → ForcedPipeline
+unfoldable pub queueAfter : ForcedPipeline → List QueueCall → ForcedPipeline
 queueAfter q [] = q
-queueAfter q (c ∷ cs) = queueAfter (left q c) cs
+queueAfter q (c ∷ cs) = queueAfter (queueLeft q c) cs
 
-unfoldable pub allIn : ForcedPipeline → List Call → List ForcedPosition
+unfoldable pub allIn : ForcedPipeline → List QueueCall → List ForcedPosition
 allIn q [] = []
-allIn q (c ∷ cs) = comesIn q c ++ allIn (left q c) cs
+allIn q (c ∷ cs) = comesIn q c ++ allIn (queueLeft q c) cs
 
-unfoldable pub allOut : ForcedPipeline → List Call → List ForcedPosition
+unfoldable pub allOut : ForcedPipeline → List QueueCall → List ForcedPosition
 allOut q [] = []
-allOut q (c ∷ cs) = goesOut q c ++ allOut (left q c) cs
+allOut q (c ∷ cs) = goesOut q c ++ allOut (queueLeft q c) cs

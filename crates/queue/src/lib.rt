@@ -5,11 +5,11 @@ ghost use mathlib.Core.List.{[]};
 ghost use Rattle.rules.specs.Forced.{queueOf, grownBy, takenFrom, queueEmpty, queueLength};
 ghost use Rattle.rules.specs.Promises.{before, after};
 ghost use Rattle.queue.specs.Promises.{TakesFrom, AddsTo};
+use rules::CountAnswer;
 use rules::ForcedPipeline;
 use rules::ForcedPositions;
 use rules::Grown;
 use rules::Next;
-use rules::Number;
 use rules::Taken;
 use rules::Verdict;
 use rules::Written;
@@ -57,14 +57,14 @@ pub fn is_empty(queue: ForcedPipeline) -> Verdict
     Verdict::Is(queue.len == 0)
 }
 
-pub fn len(queue: ForcedPipeline) -> Number
+pub fn len(queue: ForcedPipeline) -> CountAnswer
     ensures { λ r. ⌜ r ≡ queueLength queue ⌝ }
 {
     let refused = refusals::of_queue(queue);
     if refused != 0 {
-        return Number::Refused(refused);
+        return CountAnswer::Refused(refused);
     }
-    Number::Is(queue.len)
+    CountAnswer::Is(queue.len)
 }
 
 // The two parts of what taking answers, and of what adding answers. Each is a call of its own, so that the two functions behind them

@@ -2,11 +2,11 @@
 // bears its serial number as colour, so what is printed shows the order.
 ghost use Prim.Native.Nat.{_≤_};
 use libc::STDOUT_FILENO;
+use rules::CountAnswer;
 use rules::ForcedPipeline;
 use rules::ForcedPosition;
 use rules::ForcedPositions;
 use rules::Next;
-use rules::Number;
 use rules::Verdict;
 use rules::World;
 use rules::Written;
@@ -30,11 +30,11 @@ fn number(n: usize) {
 
 fn print_length(queue: ForcedPipeline) {
     match queue::len(queue) {
-        Number::Is(n) => {
+        CountAnswer::Is(n) => {
             text(b", length ");
             number(n);
         }
-        Number::Refused(n) => {
+        CountAnswer::Refused(n) => {
             text(b", length refused ");
             number(n as usize);
         }

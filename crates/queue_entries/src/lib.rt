@@ -64,10 +64,14 @@ pub fn take_next(queue: ForcedPipeline) -> Taken
     Taken { next, queue: left }
 }
 
-fn same_place(w: World, v: World) -> bool
-    ensures { λ r. ⌜ r ≡ samePlace w v ⌝ }
+fn same_place(place: World, other: World) -> bool
+    ensures { λ r. ⌜ r ≡ samePlace place other ⌝ }
 {
-    if w.0 == v.0 { w.1 == v.1 } else { false }
+    if place.0 == other.0 {
+        place.1 == other.1
+    } else {
+        false
+    }
 }
 
 // Whether one of the entries stands at the place.

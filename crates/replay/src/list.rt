@@ -1,11 +1,11 @@
-// A record's parts as numbers, and the comparison of slices with them. A line's numbers stand in `words`; `marks` has, for each part, the
+// A record's parts as numbers, and the comparison of slices with them. A line's numbers stand in `values`; `marks` has, for each part, the
 // index of its first number, and last that past the end. What is not there reads as 0, so that nothing is demanded of a file.
 
 // The room for a slice of a record.
 pub const ROOM: usize = 192;
 
 // The room for the numbers and the parts of a line.
-pub const WORDS: usize = 1024;
+pub const VALUES: usize = 1024;
 
 pub const MARKS: usize = 64;
 
@@ -14,14 +14,14 @@ pub const UNTOUCHED: u64 = 77;
 
 // How far the reading of a line has come: numbers stored, parts ended, and the digits of a number so far.
 struct State {
-    words: usize,
+    values: usize,
     marks: usize,
     value: u64,
     inside: bool,
 }
 
 fn next(n: usize) -> usize {
-    if n < WORDS { n + 1 } else { n }
+    if n < VALUES { n + 1 } else { n }
 }
 
 // The number with one digit more. Of 64 bits there is one number of twenty digits from 1844674407370955161 on for each last digit up to 5.
@@ -55,7 +55,7 @@ fn is_mark(byte: u8) -> bool {
 }
 
 // A digit goes on with a number, another byte ends it.
-fn number_read(state: State, byte: u8, words: &mut [u64]) -> State {
+fn number_read(state: State, byte: u8, values: &mut [u64]) -> State {
     let mut after = state;
     if is_digit(byte) {
         after.value = grown(state.value, wide(byte) % 48);
@@ -63,8 +63,8 @@ fn number_read(state: State, byte: u8, words: &mut [u64]) -> State {
         return after;
     }
     if state.inside {
-        store(words, state.words, state.value);
-        after.words = next(state.words);
+        store(values, state.values, state.value);
+        after.values = next(state.values);
     }
     after.value = 0;
     after.inside = false;
@@ -72,11 +72,11 @@ fn number_read(state: State, byte: u8, words: &mut [u64]) -> State {
 }
 
 // A mark ends a part.
-fn byte_read(state: State, byte: u8, words: &mut [u64], marks: &mut [u64]) -> State {
-    let mut after = number_read(state, byte, words);
+fn byte_read(state: State, byte: u8, values: &mut [u64], marks: &mut [u64]) -> State {
+    let mut after = number_read(state, byte, values);
     if is_mark(byte) {
         let marked = next(after.marks);
-        let past = after.words;
+        let past = after.values;
         store(marks, marked, past as u64);
         after.marks = marked;
     }
@@ -84,19 +84,19 @@ fn byte_read(state: State, byte: u8, words: &mut [u64], marks: &mut [u64]) -> St
 }
 
 // A line's numbers and marks.
-pub fn split(line: &[u8], words: &mut [u64], marks: &mut [u64]) {
+pub fn split(line: &[u8], values: &mut [u64], marks: &mut [u64]) {
     let mut state = State {
-        words: 0,
+        values: 0,
         marks: 0,
         value: 0,
         inside: false,
     };
     let mut i = 0;
     while i < line.len() {
-        state = byte_read(state, line[i], words, marks);
+        state = byte_read(state, line[i], values, marks);
         i += 1;
     }
-    byte_read(state, b'\n', words, marks);
+    byte_read(state, b'\n', values, marks);
 }
 
 fn get(list: &[u64], at: usize) -> u64 {
@@ -123,37 +123,37 @@ fn length(marks: &[u64], part: usize) -> usize {
 }
 
 // The number at an index of a part.
-fn entry(words: &[u64], marks: &[u64], part: usize, i: usize) -> u64 {
+fn entry(values: &[u64], marks: &[u64], part: usize, i: usize) -> u64 {
     let from = first(marks, part);
-    if from < words.len() {
-        get(&words[from..], i)
+    if from < values.len() {
+        get(&values[from..], i)
     } else {
         0
     }
 }
 
-fn number(words: &[u64], marks: &[u64], part: usize) -> u64 {
-    entry(words, marks, part, 0)
+fn number(values: &[u64], marks: &[u64], part: usize) -> u64 {
+    entry(values, marks, part, 0)
 }
 
-pub fn size(words: &[u64], marks: &[u64], part: usize) -> usize {
-    number(words, marks, part) as usize
+pub fn size(values: &[u64], marks: &[u64], part: usize) -> usize {
+    number(values, marks, part) as usize
 }
 
 fn word_of(value: u64) -> u32 {
     (value % 0x1_0000_0000) as u32
 }
 
-pub fn word(words: &[u64], marks: &[u64], part: usize) -> u32 {
-    word_of(number(words, marks, part))
+pub fn word(values: &[u64], marks: &[u64], part: usize) -> u32 {
+    word_of(number(values, marks, part))
 }
 
 fn byte_of(value: u64) -> u8 {
     (value % 256) as u8
 }
 
-pub fn flag(words: &[u64], marks: &[u64], part: usize) -> bool {
-    number(words, marks, part) == 1
+pub fn flag(values: &[u64], marks: &[u64], part: usize) -> bool {
+    number(values, marks, part) == 1
 }
 
 fn signed_of(value: u64) -> i32 {
@@ -165,14 +165,14 @@ fn signed_of(value: u64) -> i32 {
     }
 }
 
-pub fn signed(words: &[u64], marks: &[u64], part: usize) -> i32 {
-    signed_of(number(words, marks, part))
+pub fn signed(values: &[u64], marks: &[u64], part: usize) -> i32 {
+    signed_of(number(values, marks, part))
 }
 
-fn fill_words(words: &[u64], marks: &[u64], part: usize, room: &mut [u32]) {
+fn fill_words(values: &[u64], marks: &[u64], part: usize, room: &mut [u32]) {
     let mut i = 0;
     while i < room.len() {
-        room[i] = word_of(entry(words, marks, part, i));
+        room[i] = word_of(entry(values, marks, part, i));
         i += 1;
     }
 }
@@ -186,20 +186,20 @@ fn cut_words<'a>(room: &'a mut [u32], n: usize) -> &'a mut [u32] {
 
 // A part of a record in the room given, which is cut where the part ends.
 pub fn words_in<'a>(
-    words: &[u64],
+    values: &[u64],
     marks: &[u64],
     part: usize,
     room: &'a mut [u32],
 ) -> &'a mut [u32] {
     let cells = cut_words(room, length(marks, part));
-    fill_words(words, marks, part, cells);
+    fill_words(values, marks, part, cells);
     cells
 }
 
-fn fill_bytes(words: &[u64], marks: &[u64], part: usize, room: &mut [u8]) {
+fn fill_bytes(values: &[u64], marks: &[u64], part: usize, room: &mut [u8]) {
     let mut i = 0;
     while i < room.len() {
-        room[i] = byte_of(entry(words, marks, part, i));
+        room[i] = byte_of(entry(values, marks, part, i));
         i += 1;
     }
 }
@@ -211,16 +211,21 @@ fn cut_bytes<'a>(room: &'a mut [u8], n: usize) -> &'a mut [u8] {
     room
 }
 
-pub fn bytes_in<'a>(words: &[u64], marks: &[u64], part: usize, room: &'a mut [u8]) -> &'a mut [u8] {
+pub fn bytes_in<'a>(
+    values: &[u64],
+    marks: &[u64],
+    part: usize,
+    room: &'a mut [u8],
+) -> &'a mut [u8] {
     let cells = cut_bytes(room, length(marks, part));
-    fill_bytes(words, marks, part, cells);
+    fill_bytes(values, marks, part, cells);
     cells
 }
 
 // What a slice must hold at an index after the call: the part's number, or past its end what stood there before.
-fn expected(words: &[u64], marks: &[u64], part: usize, i: usize) -> u64 {
+fn expected(values: &[u64], marks: &[u64], part: usize, i: usize) -> u64 {
     if i < length(marks, part) {
-        entry(words, marks, part, i)
+        entry(values, marks, part, i)
     } else {
         UNTOUCHED
     }
@@ -239,18 +244,18 @@ fn long_is(cell: u64, value: u64) -> bool {
 }
 
 // Whether the call answered the number recorded.
-pub fn told(words: &[u64], marks: &[u64], part: usize, answer: u32) -> bool {
-    word_is(answer, number(words, marks, part))
+pub fn answered(values: &[u64], marks: &[u64], part: usize, answer: u32) -> bool {
+    word_is(answer, number(values, marks, part))
 }
 
 // Whether a slice is as recorded.
-pub fn words_are(words: &[u64], marks: &[u64], part: usize, cells: &[u32]) -> bool {
+pub fn words_are(values: &[u64], marks: &[u64], part: usize, cells: &[u32]) -> bool {
     if cells.len() < length(marks, part) {
         return false;
     }
     let mut i = 0;
     while i < cells.len() {
-        if !word_is(cells[i], expected(words, marks, part, i)) {
+        if !word_is(cells[i], expected(values, marks, part, i)) {
             return false;
         }
         i += 1;
@@ -258,13 +263,13 @@ pub fn words_are(words: &[u64], marks: &[u64], part: usize, cells: &[u32]) -> bo
     true
 }
 
-pub fn bytes_are(words: &[u64], marks: &[u64], part: usize, cells: &[u8]) -> bool {
+pub fn bytes_are(values: &[u64], marks: &[u64], part: usize, cells: &[u8]) -> bool {
     if cells.len() < length(marks, part) {
         return false;
     }
     let mut i = 0;
     while i < cells.len() {
-        if !byte_is(cells[i], expected(words, marks, part, i)) {
+        if !byte_is(cells[i], expected(values, marks, part, i)) {
             return false;
         }
         i += 1;
@@ -272,13 +277,13 @@ pub fn bytes_are(words: &[u64], marks: &[u64], part: usize, cells: &[u8]) -> boo
     true
 }
 
-pub fn longs_are(words: &[u64], marks: &[u64], part: usize, cells: &[u64]) -> bool {
+pub fn longs_are(values: &[u64], marks: &[u64], part: usize, cells: &[u64]) -> bool {
     if cells.len() < length(marks, part) {
         return false;
     }
     let mut i = 0;
     while i < cells.len() {
-        if !long_is(cells[i], expected(words, marks, part, i)) {
+        if !long_is(cells[i], expected(values, marks, part, i)) {
             return false;
         }
         i += 1;

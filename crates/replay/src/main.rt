@@ -10,27 +10,27 @@ use libc::STDOUT_FILENO;
 
 const LONGEST_FILE: usize = 24576;
 
-fn answers(step: usize, words: &[u64], marks: &[u64]) -> bool {
+fn answers(step: usize, values: &[u64], marks: &[u64]) -> bool {
     match step {
-        0 => tiles::extract(words, marks),
-        1 => board::region_count(words, marks),
-        2 => board::scan(words, marks),
-        3 => board::raise(words, marks),
-        4 => board::lower(words, marks),
-        5 => board::recount(words, marks),
-        6 => board::fresh(words, marks),
-        7 => laying::fitting_colours(words, marks),
-        8 => laying::lay(words, marks),
-        _ => laying::lift(words, marks),
+        0 => tiles::extract(values, marks),
+        1 => board::region_count(values, marks),
+        2 => board::scan(values, marks),
+        3 => board::raise(values, marks),
+        4 => board::lower(values, marks),
+        5 => board::recount(values, marks),
+        6 => board::fresh(values, marks),
+        7 => laying::fitting_colours(values, marks),
+        8 => laying::lay(values, marks),
+        _ => laying::lift(values, marks),
     }
 }
 
 // Whether the step answers as the line says.
 fn as_recorded(step: usize, line: &[u8]) -> bool {
-    let mut words = [0u64; list::WORDS];
+    let mut values = [0u64; list::VALUES];
     let mut marks = [0u64; list::MARKS];
-    list::split(line, &mut words, &mut marks);
-    answers(step, &words, &marks)
+    list::split(line, &mut values, &mut marks);
+    answers(step, &values, &marks)
 }
 
 // Where the line that starts here ends, what ends it included.
@@ -55,8 +55,8 @@ fn part(text: &[u8], from: usize, to: usize) -> &[u8] {
     &text[from..to]
 }
 
-fn text(words: &[u8]) {
-    io::write_all(STDOUT_FILENO, words);
+fn text(values: &[u8]) {
+    io::write_all(STDOUT_FILENO, values);
 }
 
 fn print_number(n: usize) {

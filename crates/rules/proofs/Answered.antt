@@ -10,7 +10,7 @@ use native.Mathlib.Omega.{arith}
 use Rattle.base.specs.Refusal.{Checks, refusal, Does}
 use Rattle.base.proofs.Chain.{refusing}
 use Rattle.base.proofs.Answered.{refuses, tells, was-refused, was-done, left-new}
-use Rattle.rules.specs.Answers.{spanAnswer, extensionAnswer, verdictAnswer, numberAnswer, tileAnswer, setAnswer, listingAnswer, fractionAnswer, writtenAnswer, layAnswer, liftAnswer}
+use Rattle.rules.specs.Answers.{spanAnswer, extensionAnswer, verdictAnswer, countAnswer, tileAnswer, setAnswer, listingAnswer, fractionAnswer, writtenAnswer, layAnswer, liftAnswer}
 use Rattle.rules.specs.Promises.{Writes}
 use Rattle.rules.specs.declared.Span.{Span}
 use Rattle.rules.specs.declared.ExtensionInfo.{ExtensionInfo}
@@ -18,7 +18,7 @@ use Rattle.rules.specs.declared.TileBitset.{TileBitset}
 use Rattle.rules.specs.declared.SpanAnswer.the-variants as SpanAnswer·
 use Rattle.rules.specs.declared.ExtensionAnswer.the-variants as ExtensionAnswer·
 use Rattle.rules.specs.declared.Verdict.the-variants as Verdict·
-use Rattle.rules.specs.declared.Number.the-variants as Number·
+use Rattle.rules.specs.declared.CountAnswer.the-variants as CountAnswer·
 use Rattle.rules.specs.declared.TileNumber.the-variants as TileNumber·
 use Rattle.rules.specs.declared.SetAnswer.the-variants as SetAnswer·
 use Rattle.rules.specs.declared.Listing.the-variants as Listing·
@@ -48,11 +48,11 @@ module _ (cs : Checks) where
   pub verdict-told : {x a : Bool} → 0 ≡ refusal cs → x ≡ a → Verdict·.Is x ≡ verdictAnswer (refusal cs) a
   verdict-told e p = tells verdictAnswer cs e p
 
-  pub number-refused : (a : ℕ) (n : ℕ) → refusing n ≡ true → n ≡ refusal cs → Number·.Refused n ≡ numberAnswer (refusal cs) a
-  number-refused a n t e = refuses numberAnswer Number·.Refused (λ m b. refl) cs a n t e
+  pub count-refused : (a : ℕ) (n : ℕ) → refusing n ≡ true → n ≡ refusal cs → CountAnswer·.Refused n ≡ countAnswer (refusal cs) a
+  count-refused a n t e = refuses countAnswer CountAnswer·.Refused (λ m b. refl) cs a n t e
 
-  pub number-told : {x a : ℕ} → 0 ≡ refusal cs → x ≡ a → Number·.Is x ≡ numberAnswer (refusal cs) a
-  number-told e p = tells numberAnswer cs e p
+  pub count-told : {x a : ℕ} → 0 ≡ refusal cs → x ≡ a → CountAnswer·.Is x ≡ countAnswer (refusal cs) a
+  count-told e p = tells countAnswer cs e p
 
   pub tiles-refused : (a : ℕ) (n : ℕ) → refusing n ≡ true → n ≡ refusal cs → TileNumber·.Refused n ≡ tileAnswer (refusal cs) a
   tiles-refused a n t e = refuses tileAnswer TileNumber·.Refused (λ m b. refl) cs a n t e
@@ -107,4 +107,4 @@ module _ {B : Type 0} (cs : Checks) (new old : B) where
   pub lift-done : {after : B} → 0 ≡ refusal cs → after ≡ new → Does cs liftAnswer new old LiftAnswer·.Lifted after
   lift-done {after} e q = was-done liftAnswer LiftAnswer·.Refused (λ m. refl) cs new old LiftAnswer·.Lifted after refl e q
 
-pub ruleset answers = (span-refused, span-told, extension-refused, extension-told, verdict-refused, verdict-told, number-refused, number-told, tiles-refused, tiles-told, set-refused, set-told, listing-refused, listing-told, fraction-refused, fraction-told, refused, done, lay-refused, lay-done, lift-refused, lift-done)
+pub ruleset answers = (span-refused, span-told, extension-refused, extension-told, verdict-refused, verdict-told, count-refused, count-told, tiles-refused, tiles-told, set-refused, set-told, listing-refused, listing-told, fraction-refused, fraction-told, refused, done, lay-refused, lay-done, lift-refused, lift-done)

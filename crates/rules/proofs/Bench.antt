@@ -13,11 +13,11 @@ use Rattle.base.specs.Counting.{every, some, sum, tally, first, within}
 use Rattle.base.specs.Tables.{tab, those, fold}
 use Rattle.base.specs.Refusal.{refusal}
 use Rattle.base.specs.Whole.{clip, withinZ}
-use Rattle.rules.specs.Tests.{boardSides, sampleSides, hasLength, tileNumber, wholeTiles, colourCount, noneAbove, piecesStored, onWall, offsetFits, onBoard}
+use Rattle.rules.specs.Tests.{boardSides, sampleSides, hasLength, tileNumberFits, wholeTiles, colourCount, noneAbove, piecesStored, onWall, offsetFits, onBoard}
 use Rattle.rules.specs.Places.{cellOf, spanOf, firstOf, lastOf, padBefore, padAfter, boxedBefore, boxedAfter, padsOf, boxedPads, extensionBy, extensionOf, boxedExtension}
 use Rattle.rules.specs.Sets.{has, bitsOf, coloursOf, membersOf}
 use Rattle.rules.specs.Tiles.{sampleCell, windowTile, rotated, reflected, turned, form, variant, sameTile, hasTile, withTile, distinct, extracted, extraction, storeAfter, storeWith}
-use Rattle.rules.specs.Grid.{numberOrPast, flat}
+use Rattle.rules.specs.Grid.{entryOrPast, flat}
 use Rattle.rules.specs.Fit.{agrees, fitsTile, fitCount, hasFitting, allows, leftAfter, listing}
 use Rattle.rules.specs.Forced.{neighbour, admits, boundsFit, forcesOne, isForced, forcedThere, forcedRound, padded, positionsOf, forcedNeighbours, deadAt, deadEnd}
 use Rattle.rules.specs.Probabilities.{largestOf, totalOf, normalised}
@@ -176,5 +176,5 @@ hold [] = true
 hold (x ∷ xs) = same (x .got) (x .due) && hold xs
 
 pub bench : hold table ≡ true
-unfolding hold same table every some sum tally first within tab those fold refusal withinZ boardSides sampleSides hasLength tileNumber wholeTiles colourCount noneAbove piecesStored onWall offsetFits onBoard cellOf spanOf firstOf lastOf padBefore padAfter boxedBefore boxedAfter padsOf boxedPads extensionBy extensionOf boxedExtension has bitsOf coloursOf sampleCell windowTile rotated reflected turned form variant sameTile hasTile withTile distinct extracted extraction storeAfter storeWith numberOrPast flat agrees fitsTile fitCount hasFitting allows leftAfter listing neighbour admits boundsFit forcesOne isForced forcedThere forcedRound padded positionsOf forcedNeighbours deadAt deadEnd largestOf totalOf normalised raised lowered recounted laid lifted freshBoard afterLay afterLift lt le add mul div ofBits ofInt toBits
+unfolding hold same table every some sum tally first within tab those fold refusal withinZ boardSides sampleSides hasLength tileNumberFits wholeTiles colourCount noneAbove piecesStored onWall offsetFits onBoard cellOf spanOf firstOf lastOf padBefore padAfter boxedBefore boxedAfter padsOf boxedPads extensionBy extensionOf boxedExtension has bitsOf coloursOf sampleCell windowTile rotated reflected turned form variant sameTile hasTile withTile distinct extracted extraction storeAfter storeWith entryOrPast flat agrees fitsTile fitCount hasFitting allows leftAfter listing neighbour admits boundsFit forcesOne isForced forcedThere forcedRound padded positionsOf forcedNeighbours deadAt deadEnd largestOf totalOf normalised raised lowered recounted laid lifted freshBoard afterLay afterLift lt le add mul div ofBits ofInt toBits
 bench = refl

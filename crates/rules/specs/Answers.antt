@@ -18,8 +18,8 @@ use Rattle.rules.specs.declared.ExtensionAnswer.{ExtensionAnswer}
 use Rattle.rules.specs.declared.ExtensionAnswer.the-variants as ExtensionAnswer·
 use Rattle.rules.specs.declared.Verdict.{Verdict}
 use Rattle.rules.specs.declared.Verdict.the-variants as Verdict·
-use Rattle.rules.specs.declared.Number.{Number}
-use Rattle.rules.specs.declared.Number.the-variants as Number·
+use Rattle.rules.specs.declared.CountAnswer.{CountAnswer}
+use Rattle.rules.specs.declared.CountAnswer.the-variants as CountAnswer·
 use Rattle.rules.specs.declared.TileNumber.{TileNumber}
 use Rattle.rules.specs.declared.TileNumber.the-variants as TileNumber·
 use Rattle.rules.specs.declared.SetAnswer.{SetAnswer}
@@ -47,9 +47,9 @@ abbrev pub verdictAnswer : ℕ → Bool → Verdict
 verdictAnswer zero b = Verdict·.Is b
 verdictAnswer (suc n) b = Verdict·.Refused (suc n)
 
-abbrev pub numberAnswer : ℕ → ℕ → Number
-numberAnswer zero k = Number·.Is k
-numberAnswer (suc n) k = Number·.Refused (suc n)
+abbrev pub countAnswer : ℕ → ℕ → CountAnswer
+countAnswer zero k = CountAnswer·.Is k
+countAnswer (suc n) k = CountAnswer·.Refused (suc n)
 
 abbrev pub tileAnswer : ℕ → ℕ → TileNumber
 tileAnswer zero k = TileNumber·.Tiles k

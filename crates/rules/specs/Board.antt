@@ -8,10 +8,10 @@ use Rattle.base.specs.Counting.{pick, sum, within}
 use Rattle.base.specs.Tables.{tab}
 use Rattle.base.specs.Refusal.{Checks, _unless_, _then_, refusal, unlessRefused}
 use Rattle.rules.specs.Bounds.{maxWeight, bare, SHAPE, LENGTH, CELL, TYPE, TAKEN, BARE}
-use Rattle.rules.specs.Tests.{boardSides, hasLength, wholeTiles, tilesIn, tileNumber, noneAbove}
+use Rattle.rules.specs.Tests.{boardSides, hasLength, wholeTiles, tilesIn, tileNumberFits, noneAbove}
 use Rattle.rules.specs.Answers.{layAnswer, liftAnswer}
 use Rattle.rules.specs.Places.{cellOf}
-use Rattle.rules.specs.Grid.{Shape, Kind, numberOf, laidOn}
+use Rattle.rules.specs.Grid.{Shape, Kind, entryOf, laidOn}
 use Rattle.rules.specs.Fit.{pattern, fitCount, contentsChecks, placeChecks}
 use Rattle.rules.specs.declared.World.{World}
 use Rattle.rules.specs.declared.Offset.{Offset}
@@ -34,9 +34,9 @@ pub record Board : Type 0 where
 abbrev pub shapeOf : Panel → Shape
 shapeOf j = j .kind (j .rows) (j .cols)
 
--- the number of the cell of a wall coordinate
-abbrev pub numberIn : Panel → World → ℕ
-numberIn j w = numberOf (j .cols) (cellOf w (j .offset))
+-- the entry of the cell of a wall coordinate
+abbrev pub entryIn : Panel → World → ℕ
+entryIn j place = entryOf (j .cols) (cellOf place (j .offset))
 
 -- ---- what the standing pieces alone say
 
@@ -126,34 +126,34 @@ abbrev pub liftingChecks : List ℕ → ℕ → Checks
 liftingChecks pieces k = BARE unless laidOn pieces k
 
 abbrev pub layChecks : Panel → ℕ → Board → World → ℕ → Checks
-layChecks j count b w colour =
+layChecks j count b place colour =
     boardChecks j count b
-    then placeChecks (j .rows) (j .cols) w (j .offset)
-    then layingChecks (b .pieces) (numberIn j w) count colour
+    then placeChecks (j .rows) (j .cols) place (j .offset)
+    then layingChecks (b .pieces) (entryIn j place) count colour
 
 abbrev pub liftChecks : Panel → ℕ → Board → World → Checks
-liftChecks j count b w =
+liftChecks j count b place =
     boardChecks j count b
-    then placeChecks (j .rows) (j .cols) w (j .offset)
-    then liftingChecks (b .pieces) (numberIn j w)
+    then placeChecks (j .rows) (j .cols) place (j .offset)
+    then liftingChecks (b .pieces) (entryIn j place)
 
 -- what a lay and a lift answer
 abbrev pub laying : Panel → ℕ → Board → World → ℕ → LayAnswer
-laying j count b w colour = layAnswer (refusal (layChecks j count b w colour))
+laying j count b place colour = layAnswer (refusal (layChecks j count b place colour))
 
 abbrev pub lifting : Panel → ℕ → Board → World → LiftAnswer
-lifting j count b w = liftAnswer (refusal (liftChecks j count b w))
+lifting j count b place = liftAnswer (refusal (liftChecks j count b place))
 
 -- the board that a call leaves; a refused call changes nothing
 unfoldable pub afterLay : Panel → ℕ → Board → World → ℕ → Board
-afterLay j count b w colour =
-    unlessRefused (refusal (layChecks j count b w colour)) (laid (shapeOf j) (j .tiles) b (numberIn j w) colour) b
+afterLay j count b place colour =
+    unlessRefused (refusal (layChecks j count b place colour)) (laid (shapeOf j) (j .tiles) b (entryIn j place) colour) b
 
 unfoldable pub afterLift : Panel → ℕ → Board → World → Board
-afterLift j count b w = unlessRefused (refusal (liftChecks j count b w)) (lifted (shapeOf j) (j .tiles) b (numberIn j w)) b
+afterLift j count b place = unlessRefused (refusal (liftChecks j count b place)) (lifted (shapeOf j) (j .tiles) b (entryIn j place)) b
 
 abbrev pub freshChecks : ℕ → ℕ → ℕ → Board → Checks
-freshChecks rows cols tiles b = boardLengths rows cols b then LENGTH unless tileNumber tiles
+freshChecks rows cols tiles b = boardLengths rows cols b then LENGTH unless tileNumberFits tiles
 
 -- the ported steps of their own: weights up and down, and the recount
 abbrev pub weightPlaneChecks : List ℕ → ℕ → ℕ → Checks
@@ -163,7 +163,7 @@ weightPlaneChecks weights rows cols =
     then CELL unless noneAbove weights maxWeight
 
 abbrev pub weightChecks : List ℕ → ℕ → ℕ → World → Offset → Checks
-weightChecks weights rows cols w o = weightPlaneChecks weights rows cols then placeChecks rows cols w o
+weightChecks weights rows cols place offset = weightPlaneChecks weights rows cols then placeChecks rows cols place offset
 
 abbrev pub countedContents : List ℕ → ℕ → List ℕ → List ℕ → ℕ → Checks
 countedContents tiles count pieces counts n = contentsChecks tiles count pieces then CELL unless noneAbove counts n
@@ -177,4 +177,4 @@ countedPlanes counts pieces rows cols tiles count =
     then countedContents tiles count pieces counts (tilesIn tiles)
 
 abbrev pub recountChecks : List ℕ → List ℕ → ℕ → ℕ → List ℕ → ℕ → World → Offset → Checks
-recountChecks counts pieces rows cols tiles count w o = countedPlanes counts pieces rows cols tiles count then placeChecks rows cols w o
+recountChecks counts pieces rows cols tiles count place offset = countedPlanes counts pieces rows cols tiles count then placeChecks rows cols place offset

@@ -8,16 +8,16 @@ use Rattle.base.specs.Counting.{every, some, tally}
 use Rattle.base.specs.Refusal.{Checks, _unless_, _then_, refusal}
 use Rattle.rules.specs.Bounds.{tileCells, SHAPE, LENGTH, COUNT, CELL, PLACE}
 use Rattle.rules.specs.Tests.{boardSides, hasLength, wholeTiles, tilesIn, colourCount, noneAbove, piecesStored, onWall, offsetFits, onBoard}
-use Rattle.rules.specs.Answers.{listingAnswer, numberAnswer}
+use Rattle.rules.specs.Answers.{listingAnswer, countAnswer}
 use Rattle.rules.specs.Sets.{setOf}
 use Rattle.rules.specs.Places.{cellOf}
-use Rattle.rules.specs.Grid.{Shape, Kind, numberOf, onGrid, colourOn}
+use Rattle.rules.specs.Grid.{Shape, Kind, entryOf, onGrid, colourOn}
 use Rattle.rules.specs.declared.World.{World}
 use Rattle.rules.specs.declared.Offset.{Offset}
 use Rattle.rules.specs.declared.Cell.{Cell}
 use Rattle.rules.specs.declared.TileBitset.{TileBitset}
 use Rattle.rules.specs.declared.Listing.{Listing}
-use Rattle.rules.specs.declared.Number.{Number}
+use Rattle.rules.specs.declared.CountAnswer.{CountAnswer}
 
 -- the 3x3 pattern of what starts at s: the colour at each place, 0 where it is bare
 abbrev pub pattern : Shape → List ℕ → ℕ → ℕ → ℕ
@@ -79,30 +79,30 @@ piecesChecks pieces rows cols tiles count =
 
 -- the checks of a place that has to lie on the board
 abbrev pub placeChecks : ℕ → ℕ → World → Offset → Checks
-placeChecks rows cols w o =
-    PLACE unless onWall w
-    then PLACE unless offsetFits o
-    then PLACE unless onBoard rows cols w o
+placeChecks rows cols place offset =
+    PLACE unless onWall place
+    then PLACE unless offsetFits offset
+    then PLACE unless onBoard rows cols place offset
 
 abbrev pub listingChecks : List ℕ → ℕ → ℕ → List ℕ → ℕ → World → Offset → Checks
-listingChecks pieces rows cols tiles count w o = piecesChecks pieces rows cols tiles count then placeChecks rows cols w o
+listingChecks pieces rows cols tiles count place offset = piecesChecks pieces rows cols tiles count then placeChecks rows cols place offset
 
 -- what a listing of cell k finds
 abbrev pub foundAt : Shape → List ℕ → List ℕ → ℕ → ℕ → TileBitset
 foundAt g tiles pieces count k = setOf count (lists g tiles pieces k)
 
 unfoldable pub listing : Kind → List ℕ → ℕ → ℕ → List ℕ → ℕ → World → Offset → Listing
-listing kind pieces rows cols tiles count w o =
+listing kind pieces rows cols tiles count place offset =
     listingAnswer
-    (refusal (listingChecks pieces rows cols tiles count w o))
-    (foundAt (kind rows cols) tiles pieces count (numberOf cols (cellOf w o)))
+    (refusal (listingChecks pieces rows cols tiles count place offset))
+    (foundAt (kind rows cols) tiles pieces count (entryOf cols (cellOf place offset)))
 
 abbrev pub regionChecks : List ℕ → ℕ → ℕ → List ℕ → ℕ → Cell → Checks
 regionChecks pieces rows cols tiles count s = piecesChecks pieces rows cols tiles count then PLACE unless onGrid rows cols s
 
 -- the number of tiles that fit the region that starts at a cell; past the edge it is bare
-unfoldable pub regionCount : Kind → List ℕ → ℕ → ℕ → List ℕ → ℕ → Cell → Number
+unfoldable pub regionCount : Kind → List ℕ → ℕ → ℕ → List ℕ → ℕ → Cell → CountAnswer
 regionCount kind pieces rows cols tiles count s =
-    numberAnswer
+    countAnswer
     (refusal (regionChecks pieces rows cols tiles count s))
-    (fitCount tiles (pattern (kind rows cols) pieces (numberOf cols s)))
+    (fitCount tiles (pattern (kind rows cols) pieces (entryOf cols s)))

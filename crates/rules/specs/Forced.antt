@@ -10,10 +10,10 @@ use Rattle.base.specs.Tables.{those, fold}
 use Rattle.base.specs.Refusal.{Checks, _unless_, _then_, refusal, unlessRefused}
 use Rattle.rules.specs.Bounds.{maxWeight, queueRoom, addedRoom, SHAPE, LENGTH, CELL, PLACE, ROOM}
 use Rattle.rules.specs.Tests.{boardSides, hasLength, wholeTiles, noneAbove, onWall, onBoard}
-use Rattle.rules.specs.Answers.{verdictAnswer, numberAnswer, writtenAnswer, deadEndAnswer, nextAnswer}
+use Rattle.rules.specs.Answers.{verdictAnswer, countAnswer, writtenAnswer, deadEndAnswer, nextAnswer}
 use Rattle.rules.specs.Places.{cellOf, samePlace, inBox, boxFits}
 use Rattle.rules.specs.Sets.{coloursOf}
-use Rattle.rules.specs.Grid.{Shape, Kind, numberOf, cellWith, laidOn}
+use Rattle.rules.specs.Grid.{Shape, Kind, entryOf, cellWith, laidOn}
 use Rattle.rules.specs.Fit.{lists, contentsChecks, piecesChecks, placeChecks}
 use Rattle.rules.specs.declared.World.{World}
 use Rattle.rules.specs.declared.Offset.{Offset}
@@ -26,19 +26,19 @@ use Rattle.rules.specs.declared.ForcedAnswer.{ForcedAnswer}
 use Rattle.rules.specs.declared.Taken.{Taken}
 use Rattle.rules.specs.declared.Grown.{Grown}
 use Rattle.rules.specs.declared.Verdict.{Verdict}
-use Rattle.rules.specs.declared.Number.{Number}
+use Rattle.rules.specs.declared.CountAnswer.{CountAnswer}
 use Rattle.rules.specs.declared.DeadEnd.{DeadEnd}
 
 -- ---- forced neighbours
 
--- the place at place d, row by row from 0 to 8, of the 3x3 round w; d = 4 is w itself
+-- the neighbour of a place that has place d, row by row from 0 to 8, in the 3x3 round it; d = 4 is the place itself
 unfoldable pub neighbour : World → ℕ → World
-neighbour w d = record { 0 = (w .0 +ℤ pos (d / 3)) -ℤ pos 1; 1 = (w .1 +ℤ pos (d % 3)) -ℤ pos 1 }
+neighbour place d = record { 0 = (place .0 +ℤ pos (d / 3)) -ℤ pos 1; 1 = (place .1 +ℤ pos (d % 3)) -ℤ pos 1 }
 
 -- not outside the box, if one is given
 unfoldable pub admits : GenerationBounds → World → Bool
-admits Unbounded w = true
-admits (Within b) w = inBox b w
+admits Unbounded place = true
+admits (Within b) place = inBox b place
 
 -- the corners of the box, if one is given, are on the wall
 unfoldable pub boundsFit : GenerationBounds → Bool
@@ -61,18 +61,18 @@ forcesOne g tiles pieces count k = not (laidOn pieces k) && eqb (length (listedA
 
 -- omitted are those outside the box or the grid, those laid, and those with other than one listed colour
 unfoldable pub isForced : Kind → List ℕ → ℕ → ℕ → List ℕ → ℕ → World → Offset → GenerationBounds → Bool
-isForced kind pieces rows cols tiles count w o b =
-    admits b w && onBoard rows cols w o && forcesOne (kind rows cols) tiles pieces count (numberOf cols (cellOf w o))
+isForced kind pieces rows cols tiles count place offset b =
+    admits b place && onBoard rows cols place offset && forcesOne (kind rows cols) tiles pieces count (entryOf cols (cellOf place offset))
 
 unfoldable pub forcedThere : Kind → List ℕ → ℕ → ℕ → List ℕ → ℕ → World → Offset → ForcedPosition
-forcedThere kind pieces rows cols tiles count w o =
-    record { coordinates = w; colour = only (listedAt (kind rows cols) tiles pieces count (numberOf cols (cellOf w o))) }
+forcedThere kind pieces rows cols tiles count place offset =
+    record { coordinates = place; colour = only (listedAt (kind rows cols) tiles pieces count (entryOf cols (cellOf place offset))) }
 
 -- the eight neighbours row by row
 unfoldable pub forcedRound : Kind → List ℕ → ℕ → ℕ → List ℕ → ℕ → World → Offset → GenerationBounds → List ForcedPosition
-forcedRound kind pieces rows cols tiles count w o b =
-    those 9 (λ d. not (eqb d 4) && isForced kind pieces rows cols tiles count (neighbour w d) o b)
-    (λ d. forcedThere kind pieces rows cols tiles count (neighbour w d) o)
+forcedRound kind pieces rows cols tiles count place offset b =
+    those 9 (λ d. not (eqb d 4) && isForced kind pieces rows cols tiles count (neighbour place d) offset b)
+    (λ d. forcedThere kind pieces rows cols tiles count (neighbour place d) offset)
 
 -- Unused entries are 0
 abbrev pub noPosition : ForcedPosition
@@ -88,13 +88,13 @@ abbrev pub boundsChecks : GenerationBounds → Checks
 boundsChecks b = PLACE unless boundsFit b
 
 abbrev pub forcedChecks : List ℕ → ℕ → ℕ → List ℕ → ℕ → World → Offset → GenerationBounds → Checks
-forcedChecks pieces rows cols tiles count w o b =
-    piecesChecks pieces rows cols tiles count then placeChecks rows cols w o then boundsChecks b
+forcedChecks pieces rows cols tiles count place offset b =
+    piecesChecks pieces rows cols tiles count then placeChecks rows cols place offset then boundsChecks b
 
 unfoldable pub forcedNeighbours : Kind → List ℕ → ℕ → ℕ → List ℕ → ℕ → World → Offset → GenerationBounds → ForcedAnswer
-forcedNeighbours kind pieces rows cols tiles count w o b =
-    let n : ℕ = refusal (forcedChecks pieces rows cols tiles count w o b) in
-    record { refused = n; found = positionsOf (unlessRefused n (forcedRound kind pieces rows cols tiles count w o b) []) }
+forcedNeighbours kind pieces rows cols tiles count place offset b =
+    let n : ℕ = refusal (forcedChecks pieces rows cols tiles count place offset b) in
+    record { refused = n; found = positionsOf (unlessRefused n (forcedRound kind pieces rows cols tiles count place offset b) []) }
 
 -- ---- the queue: first in, first out. Its entries stand from entry 0, next out first; those past its length are not read
 
@@ -109,8 +109,8 @@ unfoldable pub queueOf : List ForcedPosition → ForcedPipeline
 queueOf l = record { entries = padded queueRoom l; len = length l }
 
 unfoldable pub isQueued : World → List ForcedPosition → Bool
-isQueued w [] = false
-isQueued w (e ∷ l) = samePlace (e .coordinates) w || isQueued w l
+isQueued place [] = false
+isQueued place (e ∷ l) = samePlace (e .coordinates) place || isQueued place l
 
 -- a place already queued is skipped, even with another colour
 unfoldable pub withPosition : List ForcedPosition → ForcedPosition → List ForcedPosition
@@ -157,8 +157,8 @@ takenFrom q =
 unfoldable pub queueEmpty : ForcedPipeline → Verdict
 queueEmpty q = verdictAnswer (refusal (queueChecks q)) (eqb (q .len) 0)
 
-unfoldable pub queueLength : ForcedPipeline → Number
-queueLength q = numberAnswer (refusal (queueChecks q)) (q .len)
+unfoldable pub queueLength : ForcedPipeline → CountAnswer
+queueLength q = countAnswer (refusal (queueChecks q)) (q .len)
 
 -- ---- the dead end: the first cell, row by row, that is bare, has weight above 1 and lists no colour
 

@@ -1,5 +1,5 @@
--- Cells and their numbers, and the shape of a grid: all that the rules ask of it. Cells are numbered row by row from 0; a 3x3 window or
--- region is named by the cell at which it starts, its places are numbered row by row from 0 to 8.
+-- Cells and their entries in a plane, and the shape of a grid: all that the rules ask of it. Entries are counted row by row from 0; a 3x3
+-- window or region is named by the cell at which it starts, its places are counted row by row from 0 to 8.
 use Prim.Native.Nat.{ℕ, _+_, _-_, _*_, _/_, _%_, max}
 use mathlib.Core.Bool.{Bool, _&&_}
 use mathlib.Core.List.{List}
@@ -13,9 +13,9 @@ use Rattle.rules.specs.declared.Cell.{Cell}
 abbrev pub cellAt : ℕ → ℕ → Cell
 cellAt r c = record { 0 = r; 1 = c }
 
--- the number of a cell on a grid that is so many columns wide, and the cell with a number
-abbrev pub numberOf : ℕ → Cell → ℕ
-numberOf cols k = k .0 * cols + k .1
+-- the entry of a cell in a plane that is so many columns wide, and the cell of an entry
+abbrev pub entryOf : ℕ → Cell → ℕ
+entryOf cols k = k .0 * cols + k .1
 
 abbrev pub cellWith : ℕ → ℕ → Cell
 cellWith cols k = cellAt (k / cols) (k % cols)
@@ -28,7 +28,7 @@ pub record Shape : Type 0 where
   -- of the nine windows that hold cell k: the one that has it at place q is kept, and starts at this cell
   pub kept : ℕ → ℕ → Bool
   pub start : ℕ → ℕ → ℕ
-  -- the cell at place i of what starts at s; where that is past the edge, a number that no cell has
+  -- the cell at place i of what starts at s; where that is past the edge, an entry that no cell has
   pub place : ℕ → ℕ → ℕ
   -- what starts at s does not pass the edge
   pub whole : ℕ → Bool
@@ -39,9 +39,9 @@ pub record Shape : Type 0 where
 abbrev pub Kind : Type 0
 Kind = ℕ → ℕ → Shape
 
--- the number of a cell, and that of no cell where it is past the edge
-unfoldable pub numberOrPast : ℕ → ℕ → Cell → ℕ
-numberOrPast rows cols k = pick (onGrid rows cols k) (numberOf cols k) (rows * cols)
+-- the entry of a cell, and that of no cell where it is past the edge
+unfoldable pub entryOrPast : ℕ → ℕ → Cell → ℕ
+entryOrPast rows cols k = pick (onGrid rows cols k) (entryOf cols k) (rows * cols)
 
 abbrev pub gap : ℕ → ℕ → ℕ
 gap a b = (a - b) + (b - a)
@@ -55,8 +55,8 @@ unfoldable pub flat : Kind
 flat rows cols =
     record {
       kept = λ k q. leb (q / 3) (k / cols) && leb (q % 3) (k % cols);
-      start = λ k q. numberOf cols (cellAt (k / cols - q / 3) (k % cols - q % 3));
-      place = λ s i. numberOrPast rows cols (cellAt (s / cols + i / 3) (s % cols + i % 3));
+      start = λ k q. entryOf cols (cellAt (k / cols - q / 3) (k % cols - q % 3));
+      place = λ s i. entryOrPast rows cols (cellAt (s / cols + i / 3) (s % cols + i % 3));
       whole = λ s. ltb (s / cols + 2) rows && ltb (s % cols + 2) cols;
       apart = λ j k. distance (cellWith cols j) (cellWith cols k);
     }

@@ -13,7 +13,7 @@ use Rattle.base.specs.Whole.{clip, eqZ}
 use Rattle.base.specs.Refusal.{Checks, _unless_, _then_, refusal}
 use Rattle.rules.specs.Bounds.{maxRadius, SHAPE, LENGTH, NUMBER, PLACE}
 use Rattle.rules.specs.Tests.{boardSides, hasLength, rowIndex, colIndex, onWall, offsetFits}
-use Rattle.rules.specs.Grid.{cellAt, numberOf}
+use Rattle.rules.specs.Grid.{cellAt, entryOf}
 use Rattle.rules.specs.Answers.{spanAnswer, verdictAnswer, extensionAnswer}
 use Rattle.rules.specs.Floats.{one64, isNumber, allAre}
 use Rattle.rules.specs.declared.World.{World}
@@ -29,101 +29,101 @@ use Rattle.rules.specs.declared.ExtensionAnswer.{ExtensionAnswer}
 
 -- the cell of a wall coordinate; one above or left of the grid has none, and 0 stands for its index
 unfoldable pub cellOf : World → Offset → Cell
-cellOf w o = cellAt (clip (rowIndex w o)) (clip (colIndex w o))
+cellOf place offset = cellAt (clip (rowIndex place offset)) (clip (colIndex place offset))
 
 unfoldable pub samePlace : World → World → Bool
-samePlace w v = eqZ (w .0) (v .0) && eqZ (w .1) (v .1)
+samePlace place other = eqZ (place .0) (other .0) && eqZ (place .1) (other .1)
 
 -- A span of radius k round index x runs from max(0, x-k) up to, not including, max(0, x+k+1)
 unfoldable pub spanOf : ℤ → ℕ → Span
 spanOf x k = record { 0 = clip (x -ℤ pos k); 1 = clip ((x +ℤ pos k) +ℤ pos 1) }
 
 abbrev pub spanChecks : Offset → World → ℕ → Checks
-spanChecks o w k =
+spanChecks offset place k =
     SHAPE unless leb k maxRadius
-    then PLACE unless onWall w
-    then PLACE unless offsetFits o
+    then PLACE unless onWall place
+    then PLACE unless offsetFits offset
 
 unfoldable pub regionSpans : Offset → World → ℕ → SpanAnswer
-regionSpans o w k = spanAnswer (refusal (spanChecks o w k)) (spanOf (rowIndex w o) k) (spanOf (colIndex w o) k)
+regionSpans offset place k = spanAnswer (refusal (spanChecks offset place k)) (spanOf (rowIndex place offset) k) (spanOf (colIndex place offset) k)
 
 -- A box with min above max contains nothing
 unfoldable pub inBox : BoundingBox → World → Bool
-inBox b w = leZ (b .min .0) (w .0) && leZ (w .0) (b .max .0) && leZ (b .min .1) (w .1) && leZ (w .1) (b .max .1)
+inBox b place = leZ (b .min .0) (place .0) && leZ (place .0) (b .max .0) && leZ (b .min .1) (place .1) && leZ (place .1) (b .max .1)
 
 abbrev pub boxFits : BoundingBox → Bool
 boxFits b = onWall (b .min) && onWall (b .max)
 
 abbrev pub boxChecks : BoundingBox → World → Checks
-boxChecks b w = PLACE unless boxFits b then PLACE unless onWall w
+boxChecks b place = PLACE unless boxFits b then PLACE unless onWall place
 
 unfoldable pub boxContains : BoundingBox → World → Verdict
-boxContains b w = verdictAnswer (refusal (boxChecks b w)) (inBox b w)
+boxContains b place = verdictAnswer (refusal (boxChecks b place)) (inBox b place)
 
 -- the coordinates of the first and of the last cell of a side
 unfoldable pub firstOf : ℤ → ℤ
-firstOf o = pos 0 -ℤ o
+firstOf offset = pos 0 -ℤ offset
 
 unfoldable pub lastOf : ℕ → ℤ → ℤ
-lastOf side o = (firstOf o +ℤ pos side) -ℤ pos 1
+lastOf side offset = (firstOf offset +ℤ pos side) -ℤ pos 1
 
 -- each pad is how far coordinate-radius or coordinate+radius lies past the present edge, else 0
 unfoldable pub padBefore : ℤ → ℤ → ℕ → ℕ
-padBefore o x k = clip (firstOf o -ℤ (x -ℤ pos k))
+padBefore offset x k = clip (firstOf offset -ℤ (x -ℤ pos k))
 
 unfoldable pub padAfter : ℕ → ℤ → ℤ → ℕ → ℕ
-padAfter side o x k = clip ((x +ℤ pos k) -ℤ lastOf side o)
+padAfter side offset x k = clip ((x +ℤ pos k) -ℤ lastOf side offset)
 
 -- with a box, each pad loses the excess past the box, never below 0
 unfoldable pub boxedBefore : ℤ → ℤ → ℕ → ℕ
-boxedBefore least o pad = pad - clip (least -ℤ (firstOf o -ℤ pos pad))
+boxedBefore least offset pad = pad - clip (least -ℤ (firstOf offset -ℤ pos pad))
 
 unfoldable pub boxedAfter : ℤ → ℕ → ℤ → ℕ → ℕ
-boxedAfter most side o pad = pad - clip ((lastOf side o +ℤ pos pad) -ℤ most)
+boxedAfter most side offset pad = pad - clip ((lastOf side offset +ℤ pos pad) -ℤ most)
 
 -- left and right belong to the rows, top and bottom to the columns
 unfoldable pub padsOf : ℕ → ℕ → Offset → World → ℕ → Pads
-padsOf rows cols o w k =
+padsOf rows cols offset place k =
     record {
-      left = padBefore (o .0) (w .0) k;
-      right = padAfter rows (o .0) (w .0) k;
-      top = padBefore (o .1) (w .1) k;
-      bottom = padAfter cols (o .1) (w .1) k;
+      left = padBefore (offset .0) (place .0) k;
+      right = padAfter rows (offset .0) (place .0) k;
+      top = padBefore (offset .1) (place .1) k;
+      bottom = padAfter cols (offset .1) (place .1) k;
     }
 
 unfoldable pub boxedPads : BoundingBox → ℕ → ℕ → Offset → Pads → Pads
-boxedPads b rows cols o p =
+boxedPads b rows cols offset p =
     record {
-      left = boxedBefore (b .min .0) (o .0) (p .left);
-      right = boxedAfter (b .max .0) rows (o .0) (p .right);
-      top = boxedBefore (b .min .1) (o .1) (p .top);
-      bottom = boxedAfter (b .max .1) cols (o .1) (p .bottom);
+      left = boxedBefore (b .min .0) (offset .0) (p .left);
+      right = boxedAfter (b .max .0) rows (offset .0) (p .right);
+      top = boxedBefore (b .min .1) (offset .1) (p .top);
+      bottom = boxedAfter (b .max .1) cols (offset .1) (p .bottom);
     }
 
 -- the new offset adds left and top
 unfoldable pub extensionBy : Offset → Pads → ExtensionInfo
-extensionBy o p =
+extensionBy offset p =
     record {
       pads = p;
-      offset = record { 0 = o .0 +ℤ pos (p .left); 1 = o .1 +ℤ pos (p .top) };
+      offset = record { 0 = offset .0 +ℤ pos (p .left); 1 = offset .1 +ℤ pos (p .top) };
       needed = ltb 0 (((p .left + p .right) + p .top) + p .bottom);
     }
 
 abbrev pub extensionChecks : ℕ → ℕ → Offset → World → ℕ → Checks
-extensionChecks rows cols o w k = SHAPE unless boardSides rows cols then spanChecks o w k
+extensionChecks rows cols offset place k = SHAPE unless boardSides rows cols then spanChecks offset place k
 
 unfoldable pub extensionOf : ℕ → ℕ → Offset → World → ℕ → ExtensionAnswer
-extensionOf rows cols o w k =
-    extensionAnswer (refusal (extensionChecks rows cols o w k)) (extensionBy o (padsOf rows cols o w k))
+extensionOf rows cols offset place k =
+    extensionAnswer (refusal (extensionChecks rows cols offset place k)) (extensionBy offset (padsOf rows cols offset place k))
 
 abbrev pub boxedExtensionChecks : ℕ → ℕ → Offset → World → ℕ → BoundingBox → Checks
-boxedExtensionChecks rows cols o w k b = extensionChecks rows cols o w k then PLACE unless boxFits b
+boxedExtensionChecks rows cols offset place k b = extensionChecks rows cols offset place k then PLACE unless boxFits b
 
 unfoldable pub boxedExtension : ℕ → ℕ → Offset → World → ℕ → BoundingBox → ExtensionAnswer
-boxedExtension rows cols o w k b =
+boxedExtension rows cols offset place k b =
     extensionAnswer
-    (refusal (boxedExtensionChecks rows cols o w k b))
-    (extensionBy o (boxedPads b rows cols o (padsOf rows cols o w k)))
+    (refusal (boxedExtensionChecks rows cols offset place k b))
+    (extensionBy offset (boxedPads b rows cols offset (padsOf rows cols offset place k)))
 
 -- the sides that the pads of a copy make
 abbrev pub newRows : ℕ → Pads → ℕ
@@ -136,7 +136,7 @@ newCols cols p = (p .top + cols) + p .bottom
 unfoldable pub copiedCell : {A : Type 0} → A → A → List A → ℕ → ℕ → Pads → ℕ → ℕ → A
 copiedCell none fill plane rows cols p r c =
     pick (leb (p .left) r && ltb (r - p .left) rows && leb (p .top) c && ltb (c - p .top) cols)
-    (getD plane (numberOf cols (cellAt (r - p .left) (c - p .top))) none)
+    (getD plane (entryOf cols (cellAt (r - p .left) (c - p .top))) none)
     fill
 
 unfoldable pub copied : {A : Type 0} → A → A → List A → ℕ → ℕ → Pads → List A

@@ -11,7 +11,7 @@ use Rattle.base.specs.Refusal.{Checks, _unless_, _then_}
 use Rattle.rules.specs.Bounds.{maxRadius, maxInfluenceSide, SHAPE, LENGTH, COUNT, NUMBER, PLACE}
 use Rattle.rules.specs.Tests.{boardSides, hasLength, colourCount, rowIndex, colIndex, onWall, offsetFits, onBoard}
 use Rattle.rules.specs.Places.{cellOf, spanOf}
-use Rattle.rules.specs.Grid.{cellAt, numberOf}
+use Rattle.rules.specs.Grid.{cellAt, entryOf}
 use Rattle.rules.specs.Fit.{placeChecks}
 use Rattle.rules.specs.Floats.{zero64, one64, inf64, plus, times, over, floatOf, isNumber, isFinite, allAre}
 use Rattle.rules.specs.Scores.{inSpan}
@@ -48,18 +48,18 @@ normalised ps =
 
 -- the probabilities of a place, colour by colour; one off the board counts as all zeros
 unfoldable pub probabilitiesAt : List Float → ℕ → ℕ → ℕ → World → Offset → List Float
-probabilitiesAt plane rows cols count w o =
-    tab count (λ t. pick (onBoard rows cols w o) (getD plane (t * (rows * cols) + numberOf cols (cellOf w o)) nan) zero64)
+probabilitiesAt plane rows cols count place offset =
+    tab count (λ t. pick (onBoard rows cols place offset) (getD plane (t * (rows * cols) + entryOf cols (cellOf place offset)) nan) zero64)
 
 abbrev pub normaliseChecks : List Float → ℕ → ℕ → ℕ → World → Offset → List Float → Checks
-normaliseChecks plane rows cols count w o out =
+normaliseChecks plane rows cols count place offset out =
     SHAPE unless boardSides rows cols
     then LENGTH unless hasLength plane (count * (rows * cols))
     then LENGTH unless hasLength out count
     then COUNT unless colourCount count
     then NUMBER unless allAre isNumber plane
-    then PLACE unless onWall w
-    then PLACE unless offsetFits o
+    then PLACE unless onWall place
+    then PLACE unless offsetFits offset
 
 -- ---- the product step and its reverse
 
@@ -78,8 +78,8 @@ abbrev pub clippedTo : ℕ → Span → Span
 clippedTo side s = record { 0 = min (s .0) side; 1 = min (s .1) side }
 
 unfoldable pub regionOf : ℕ → ℕ → World → Offset → ℕ → Region
-regionOf rows cols w o k =
-    record { rows = clippedTo rows (spanOf (rowIndex w o) k); cols = clippedTo cols (spanOf (colIndex w o) k) }
+regionOf rows cols place offset k =
+    record { rows = clippedTo rows (spanOf (rowIndex place offset) k); cols = clippedTo cols (spanOf (colIndex place offset) k) }
 
 -- the block's entry (0, 0) goes to the first cell of the clipped region
 abbrev pub inRegion : Region → ℕ → ℕ → Bool
@@ -89,7 +89,7 @@ abbrev pub inBlock : Region → Block → ℕ → ℕ → Bool
 inBlock g b r c = ltb (r - g .rows .0) (b .rows) && ltb (c - g .cols .0) (b .cols)
 
 unfoldable pub influence : Region → Block → ℕ → ℕ → ℕ → Float
-influence g b t r c = getD (b .entries) (t * (b .rows * b .cols) + numberOf (b .cols) (cellAt (r - g .rows .0) (c - g .cols .0))) nan
+influence g b t r c = getD (b .entries) (t * (b .rows * b .cols) + entryOf (b .cols) (cellAt (r - g .rows .0) (c - g .cols .0))) nan
 
 -- beyond the block the factor is 1.0
 unfoldable pub productAt : Region → Block → Float → ℕ → ℕ → ℕ → Float
@@ -107,10 +107,10 @@ changedBy rows cols f plane =
     (λ q. f (getD plane q nan) (q / (rows * cols)) (q % (rows * cols) / cols) (q % (rows * cols) % cols))
 
 unfoldable pub multiplied : ℕ → ℕ → Block → World → Offset → ℕ → List Float → List Float
-multiplied rows cols b w o k plane = changedBy rows cols (productAt (regionOf rows cols w o k) b) plane
+multiplied rows cols b place offset k plane = changedBy rows cols (productAt (regionOf rows cols place offset k) b) plane
 
 unfoldable pub divided : ℕ → ℕ → Block → World → Offset → ℕ → List Float → List Float
-divided rows cols b w o k plane = changedBy rows cols (quotientAt (regionOf rows cols w o k) b) plane
+divided rows cols b place offset k plane = changedBy rows cols (quotientAt (regionOf rows cols place offset k) b) plane
 
 abbrev pub influenceSizes : List Float → ℕ → ℕ → ℕ → Block → ℕ → Checks
 influenceSizes plane rows cols count b k =
@@ -122,8 +122,8 @@ influenceSizes plane rows cols count b k =
     then COUNT unless colourCount count
 
 abbrev pub influenceChecks : List Float → ℕ → ℕ → ℕ → Block → World → Offset → ℕ → Checks
-influenceChecks plane rows cols count b w o k =
+influenceChecks plane rows cols count b place offset k =
     influenceSizes plane rows cols count b k
     then NUMBER unless allAre isFinite plane
     then NUMBER unless allAre isFinite (b .entries)
-    then placeChecks rows cols w o
+    then placeChecks rows cols place offset

@@ -8,7 +8,7 @@ use Rattle.base.specs.Refusal.{Checks, Gives, Does}
 pub use Rattle.base.specs.Lent.{Lent, before, after}
 use Rattle.rules.specs.Answers.{writtenAnswer}
 use Rattle.rules.specs.Floats.{one64}
-use Rattle.rules.specs.Grid.{Kind, flat, numberOf}
+use Rattle.rules.specs.Grid.{Kind, flat, entryOf}
 use Rattle.rules.specs.Places.{cellOf, copied, copyChecks, floatCopyChecks}
 use Rattle.rules.specs.Tiles.{extraction, storeAfter}
 use Rattle.rules.specs.Scores.{layScores, liftScores, layScoreChecks, liftScoreChecks}
@@ -50,16 +50,16 @@ Freshens rows cols tiles old = Writes (freshChecks rows cols tiles old) (freshBo
 
 -- the weights round a place, up and down
 abbrev pub Raises : Kind → ℕ → ℕ → World → Offset → List ℕ → Written → List ℕ → Type 0
-Raises kind rows cols w o old = Writes (weightChecks old rows cols w o) (raised (kind rows cols) (numberOf cols (cellOf w o)) old) old
+Raises kind rows cols place offset old = Writes (weightChecks old rows cols place offset) (raised (kind rows cols) (entryOf cols (cellOf place offset)) old) old
 
 abbrev pub Lowers : Kind → ℕ → ℕ → World → Offset → List ℕ → Written → List ℕ → Type 0
-Lowers kind rows cols w o old = Writes (weightChecks old rows cols w o) (lowered (kind rows cols) (numberOf cols (cellOf w o)) old) old
+Lowers kind rows cols place offset old = Writes (weightChecks old rows cols place offset) (lowered (kind rows cols) (entryOf cols (cellOf place offset)) old) old
 
 -- the counts round a place
 abbrev pub Recounts : Panel → ℕ → World → List ℕ → List ℕ → Written → List ℕ → Type 0
-Recounts j count w pieces old =
-    Writes (recountChecks old pieces (j .rows) (j .cols) (j .tiles) count w (j .offset))
-    (recounted (j .kind (j .rows) (j .cols)) (j .tiles) pieces (numberOf (j .cols) (cellOf w (j .offset))) old)
+Recounts j count place pieces old =
+    Writes (recountChecks old pieces (j .rows) (j .cols) (j .tiles) count place (j .offset))
+    (recounted (j .kind (j .rows) (j .cols)) (j .tiles) pieces (entryOf (j .cols) (cellOf place (j .offset))) old)
     old
 
 -- the copies of a plane into a larger one: both fill new cells with 1
@@ -71,7 +71,8 @@ CopiesFloats rows cols p plane old = Writes (floatCopyChecks plane rows cols p o
 
 -- the two scores
 abbrev pub ScoresLay : ℕ → ℕ → List ℕ → ℕ → World → Offset → List Float → Written → List Float → Type 0
-ScoresLay rows cols counts tiles w o old = Writes (layScoreChecks old counts rows cols tiles w o) (layScores rows cols counts tiles w o old) old
+ScoresLay rows cols counts tiles place offset old =
+    Writes (layScoreChecks old counts rows cols tiles place offset) (layScores rows cols counts tiles place offset old) old
 
 abbrev pub ScoresLift : ℕ → ℕ → List ℕ → ℕ → Span → Span → List Float → Written → List Float → Type 0
 ScoresLift rows cols counts tiles rowSpan colSpan old =
@@ -79,14 +80,14 @@ ScoresLift rows cols counts tiles rowSpan colSpan old =
 
 -- normalised probabilities, the product step and its reverse
 abbrev pub Normalises : List Float → ℕ → ℕ → ℕ → World → Offset → List Float → Written → List Float → Type 0
-Normalises plane rows cols count w o old =
-    Writes (normaliseChecks plane rows cols count w o old) (normalised (probabilitiesAt plane rows cols count w o)) old
+Normalises plane rows cols count place offset old =
+    Writes (normaliseChecks plane rows cols count place offset old) (normalised (probabilitiesAt plane rows cols count place offset)) old
 
 abbrev pub Multiplies : ℕ → ℕ → ℕ → Block → World → Offset → ℕ → List Float → Written → List Float → Type 0
-Multiplies rows cols count b w o k old = Writes (influenceChecks old rows cols count b w o k) (multiplied rows cols b w o k old) old
+Multiplies rows cols count b place offset k old = Writes (influenceChecks old rows cols count b place offset k) (multiplied rows cols b place offset k old) old
 
 abbrev pub Divides : ℕ → ℕ → ℕ → Block → World → Offset → ℕ → List Float → Written → List Float → Type 0
-Divides rows cols count b w o k old = Writes (influenceChecks old rows cols count b w o k) (divided rows cols b w o k old) old
+Divides rows cols count b place offset k old = Writes (influenceChecks old rows cols count b place offset k) (divided rows cols b place offset k old) old
 
 -- ---- calls with answers of their own
 
@@ -96,7 +97,7 @@ Extracts sample rows cols count rotations reflections old =
     Gives (extraction sample rows cols count rotations reflections old) (storeAfter sample rows cols count rotations reflections old)
 
 abbrev pub Lays : Panel → ℕ → World → ℕ → Board → LayAnswer → Board → Type 0
-Lays j count w colour old = Gives (laying j count old w colour) (afterLay j count old w colour)
+Lays j count place colour old = Gives (laying j count old place colour) (afterLay j count old place colour)
 
 abbrev pub Lifts : Panel → ℕ → World → Board → LiftAnswer → Board → Type 0
-Lifts j count w old = Gives (lifting j count old w) (afterLift j count old w)
+Lifts j count place old = Gives (lifting j count old place) (afterLift j count old place)

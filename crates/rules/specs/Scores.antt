@@ -10,10 +10,10 @@ use Rattle.base.specs.Regions.{between}
 use Rattle.base.specs.Tables.{tab, those, fold}
 use Rattle.base.specs.Refusal.{Checks, _unless_, _then_, refusal}
 use Rattle.rules.specs.Bounds.{SHAPE, LENGTH, CELL, NUMBER, PLACE}
-use Rattle.rules.specs.Tests.{boardSides, hasLength, tileNumber, noneAbove, rowIndex, colIndex}
+use Rattle.rules.specs.Tests.{boardSides, hasLength, tileNumberFits, noneAbove, rowIndex, colIndex}
 use Rattle.rules.specs.Answers.{fractionAnswer}
 use Rattle.rules.specs.Places.{spanOf}
-use Rattle.rules.specs.Grid.{cellAt, numberOf, onGrid}
+use Rattle.rules.specs.Grid.{cellAt, entryOf, onGrid}
 use Rattle.rules.specs.Fit.{placeChecks}
 use Rattle.rules.specs.Floats.{zero64, plus, times, over, floatOf, isFinite, allAre}
 use Rattle.rules.specs.declared.World.{World}
@@ -34,7 +34,7 @@ abbrev pub boxHas : ℕ → ℕ → ℕ → ℕ → ℕ → Bool
 boxHas rows cols r c i = leb 2 (r + i / 3) && ltb (r + i / 3 - 2) rows && leb 2 (c + i % 3) && ltb (c + i % 3 - 2) cols
 
 abbrev pub boxCell : ℕ → ℕ → ℕ → ℕ → ℕ
-boxCell cols r c i = numberOf cols (cellAt (r + i / 3 - 2) (c + i % 3 - 2))
+boxCell cols r c i = entryOf cols (cellAt (r + i / 3 - 2) (c + i % 3 - 2))
 
 unfoldable pub boxCells : ℕ → ℕ → ℕ → ℕ → List ℕ
 boxCells rows cols r c = those 9 (boxHas rows cols r c) (boxCell cols r c)
@@ -61,10 +61,10 @@ abbrev pub pastTarget : ℕ → Span → ℕ → Bool
 pastTarget side s x = leb (s .0 + 1 + 1) x && ltb x (min (s .1) side + 1)
 
 abbrev pub layFalls : ℕ → ℕ → World → Offset → ℕ → ℕ → Bool
-layFalls rows cols w o r c = pastTarget rows (spanOf (rowIndex w o) 2) r && pastTarget cols (spanOf (colIndex w o) 2) c
+layFalls rows cols place offset r c = pastTarget rows (spanOf (rowIndex place offset) 2) r && pastTarget cols (spanOf (colIndex place offset) 2) c
 
 unfoldable pub layScores : ℕ → ℕ → List ℕ → ℕ → World → Offset → List Float → List Float
-layScores rows cols counts tiles w o scores = scored rows cols (layFalls rows cols w o) (fraction counts tiles) scores
+layScores rows cols counts tiles place offset scores = scored rows cols (layFalls rows cols place offset) (fraction counts tiles) scores
 
 -- the lift score writes each cell of its spans: the mean of the squared fractions
 abbrev pub liftFalls : Span → Span → ℕ → ℕ → Bool
@@ -80,27 +80,27 @@ abbrev pub fractionChecks : List ℕ → ℕ → ℕ → ℕ → Cell → Checks
 fractionChecks counts rows cols tiles k =
     SHAPE unless boardSides rows cols
     then LENGTH unless hasLength counts (rows * cols)
-    then LENGTH unless tileNumber tiles
+    then LENGTH unless tileNumberFits tiles
     then CELL unless noneAbove counts tiles
     then PLACE unless onGrid rows cols k
 
 unfoldable pub fractionAt : List ℕ → ℕ → ℕ → ℕ → Cell → FractionAnswer
 fractionAt counts rows cols tiles k =
-    fractionAnswer (refusal (fractionChecks counts rows cols tiles k)) (fraction counts tiles (numberOf cols k))
+    fractionAnswer (refusal (fractionChecks counts rows cols tiles k)) (fraction counts tiles (entryOf cols k))
 
 abbrev pub scoreChecks : List Float → List ℕ → ℕ → ℕ → ℕ → Checks
 scoreChecks scores counts rows cols tiles =
     LENGTH unless hasLength scores (rows * cols)
     then LENGTH unless hasLength counts (rows * cols)
-    then LENGTH unless tileNumber tiles
+    then LENGTH unless tileNumberFits tiles
     then CELL unless noneAbove counts tiles
     then NUMBER unless allAre isFinite scores
 
 abbrev pub layScoreChecks : List Float → List ℕ → ℕ → ℕ → ℕ → World → Offset → Checks
-layScoreChecks scores counts rows cols tiles w o =
+layScoreChecks scores counts rows cols tiles place offset =
     SHAPE unless boardSides rows cols
     then scoreChecks scores counts rows cols tiles
-    then placeChecks rows cols w o
+    then placeChecks rows cols place offset
 
 -- Span ends at most the board's side
 abbrev pub liftScoreChecks : List Float → List ℕ → ℕ → ℕ → ℕ → Span → Span → Checks

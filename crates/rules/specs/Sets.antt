@@ -9,11 +9,11 @@ use Rattle.base.specs.Tables.{those}
 use Rattle.base.specs.Refusal.{Checks, _unless_, _then_, refusal}
 use Rattle.rules.specs.Bounds.{maxColours, COUNT, CELL}
 use Rattle.rules.specs.Tests.{colourCount}
-use Rattle.rules.specs.Answers.{setAnswer, verdictAnswer, numberAnswer}
+use Rattle.rules.specs.Answers.{setAnswer, verdictAnswer, countAnswer}
 use Rattle.rules.specs.declared.TileBitset.{TileBitset}
 use Rattle.rules.specs.declared.SetAnswer.{SetAnswer}
 use Rattle.rules.specs.declared.Verdict.{Verdict}
-use Rattle.rules.specs.declared.Number.{Number}
+use Rattle.rules.specs.declared.CountAnswer.{CountAnswer}
 use Rattle.rules.specs.declared.ColourList.{ColourList}
 
 -- colour t is in the set of these bits; 0 is in none
@@ -75,8 +75,8 @@ membersOf s = coloursOf (s .size) (has (s .bits))
 unfoldable pub emptiness : TileBitset → Verdict
 emptiness s = verdictAnswer (refusal (setChecks s)) (eqb (length (membersOf s)) 0)
 
-unfoldable pub membersCounted : TileBitset → Number
-membersCounted s = numberAnswer (refusal (setChecks s)) (length (membersOf s))
+unfoldable pub membersCounted : TileBitset → CountAnswer
+membersCounted s = countAnswer (refusal (setChecks s)) (length (membersOf s))
 
 -- the members and, in the entries past them, 0; a refusal gives no member
 abbrev pub colourList : ℕ → List ℕ → ColourList

@@ -25,11 +25,11 @@ hasLength plane n = eqb (length plane) n
 abbrev pub tilesIn : List ℕ → ℕ
 tilesIn tiles = length tiles / tileCells
 
-unfoldable pub tileNumber : ℕ → Bool
-tileNumber n = within 1 maxTiles n
+unfoldable pub tileNumberFits : ℕ → Bool
+tileNumberFits n = within 1 maxTiles n
 
 unfoldable pub wholeTiles : List ℕ → Bool
-wholeTiles tiles = eqb (length tiles % tileCells) 0 && tileNumber (tilesIn tiles)
+wholeTiles tiles = eqb (length tiles % tileCells) 0 && tileNumberFits (tilesIn tiles)
 
 -- COUNT
 unfoldable pub colourCount : ℕ → Bool
@@ -50,17 +50,17 @@ piecesStored pieces count = every (length pieces) (pieceStored pieces count)
 
 -- Index = coordinate + offset: that of the row, and that of the column
 abbrev pub rowIndex : World → Offset → ℤ
-rowIndex w o = w .0 +ℤ o .0
+rowIndex place offset = place .0 +ℤ offset .0
 
 abbrev pub colIndex : World → Offset → ℤ
-colIndex w o = w .1 +ℤ o .1
+colIndex place offset = place .1 +ℤ offset .1
 
 -- PLACE: a coordinate or a box corner, an offset; and that the cell lies on the board
 unfoldable pub onWall : World → Bool
-onWall w = withinZ minCoordinate maxCoordinate (w .0) && withinZ minCoordinate maxCoordinate (w .1)
+onWall place = withinZ minCoordinate maxCoordinate (place .0) && withinZ minCoordinate maxCoordinate (place .1)
 
 unfoldable pub offsetFits : Offset → Bool
-offsetFits o = withinZ minOffset maxOffset (o .0) && withinZ minOffset maxOffset (o .1)
+offsetFits offset = withinZ minOffset maxOffset (offset .0) && withinZ minOffset maxOffset (offset .1)
 
 unfoldable pub onBoard : ℕ → ℕ → World → Offset → Bool
-onBoard rows cols w o = indexBelow rows (rowIndex w o) && indexBelow cols (colIndex w o)
+onBoard rows cols place offset = indexBelow rows (rowIndex place offset) && indexBelow cols (colIndex place offset)

@@ -10,14 +10,14 @@ use Rattle.base.specs.Refusal.{Checks, _unless_, _then_, refusal, unlessRefused
 use Rattle.rules.specs.Bounds.{tileCells, SHAPE, LENGTH, COUNT, CELL, ROOM}
 use Rattle.rules.specs.Tests.{sampleSides, hasLength, wholeTiles, tilesIn, colourCount, noneAbove}
 use Rattle.rules.specs.Answers.{tileAnswer, setAnswer}
-use Rattle.rules.specs.Grid.{cellAt, numberOf, onGrid}
+use Rattle.rules.specs.Grid.{cellAt, entryOf, onGrid}
 use Rattle.rules.specs.Sets.{setOf}
 use Rattle.rules.specs.declared.TileNumber.{TileNumber}
 use Rattle.rules.specs.declared.SetAnswer.{SetAnswer}
 
 -- Cells past the sample are 0
 unfoldable pub sampleCell : List ℕ → ℕ → ℕ → ℕ → ℕ → ℕ
-sampleCell sample rows cols r c = pick (onGrid rows cols (cellAt r c)) (getD sample (numberOf cols (cellAt r c)) 0) 0
+sampleCell sample rows cols r c = pick (onGrid rows cols (cellAt r c)) (getD sample (entryOf cols (cellAt r c)) 0) 0
 
 -- Windows start at rows 0 to max(0, rows-3), columns likewise: so many start along a side
 abbrev pub startsAlong : ℕ → ℕ
@@ -59,8 +59,8 @@ form rotations i tile =
 -- variant v of a sample: the windows row by row, the forms of one together
 unfoldable pub variant : List ℕ → ℕ → ℕ → Bool → Bool → ℕ → List ℕ
 variant sample rows cols rotations reflections v =
-    let w : ℕ = v / forms rotations reflections in
-    form rotations (v % forms rotations reflections) (windowTile sample rows cols (w / startsAlong cols) (w % startsAlong cols))
+    let window : ℕ = v / forms rotations reflections in
+    form rotations (v % forms rotations reflections) (windowTile sample rows cols (window / startsAlong cols) (window % startsAlong cols))
 
 abbrev pub variants : ℕ → ℕ → Bool → Bool → ℕ
 variants rows cols rotations reflections = startsAlong rows * startsAlong cols * forms rotations reflections

@@ -132,7 +132,7 @@ pub enum Verdict {
     Refused(u8),
 }
 
-pub enum Number {
+pub enum CountAnswer {
     Is(usize),
     Refused(u8),
 }

@@ -65,28 +65,28 @@ fn no_number() -> f64 {
 
 // ---- normalising. Out holds 9.0 before each call.
 
-fn two(plane: &[f64], rows: usize, cols: usize, position: World, offset: Offset) {
+fn two(plane: &[f64], rows: usize, cols: usize, place: World, offset: Offset) {
     let mut out = [9.0f64; 2];
     answered(probabilities::get_tile_probabilities_at_position(
         plane,
         rows,
         cols,
         2,
-        position,
+        place,
         offset,
         &mut out,
     ));
     line(&out);
 }
 
-fn four(plane: &[f64; 4], position: World) {
+fn four(plane: &[f64; 4], place: World) {
     let mut out = [9.0f64; 4];
     answered(probabilities::get_tile_probabilities_at_position(
         plane,
         1,
         1,
         4,
-        position,
+        place,
         Offset(0, 0),
         &mut out,
     ));
@@ -118,14 +118,14 @@ fn normalising() {
 }
 
 // Out has room for 31 colours; its first and last entries are shown.
-fn many(plane: &[f64], count: u32, position: World, offset: Offset) {
+fn many(plane: &[f64], count: u32, place: World, offset: Offset) {
     let mut out = [9.0f64; 31];
     answered(probabilities::get_tile_probabilities_at_position(
         plane,
         1,
         1,
         count,
-        position,
+        place,
         offset,
         &mut out,
     ));
@@ -161,7 +161,7 @@ fn normalising_refused() {
 // ---- the product step and its reverse, on 3x3
 
 // One colour, every probability 8.0, by a block 2.0 4.0 / 0.0 0.5, and back.
-fn one_colour(position: World, radius: usize) {
+fn one_colour(place: World, radius: usize) {
     let block = [2.0f64, 4.0, 0.0, 0.5];
     let mut plane = [8.0f64; 9];
     let none = Offset(0, 0);
@@ -173,7 +173,7 @@ fn one_colour(position: World, radius: usize) {
         &block,
         2,
         2,
-        position,
+        place,
         none,
         radius,
     ));
@@ -186,7 +186,7 @@ fn one_colour(position: World, radius: usize) {
         &block,
         2,
         2,
-        position,
+        place,
         none,
         radius,
     ));
@@ -273,7 +273,7 @@ fn both(
     count: u32,
     block: &[f64],
     blockrows: usize,
-    position: World,
+    place: World,
     radius: usize,
 ) {
     let none = Offset(0, 0);
@@ -285,7 +285,7 @@ fn both(
         block,
         blockrows,
         1,
-        position,
+        place,
         none,
         radius,
     ));
@@ -297,7 +297,7 @@ fn both(
         block,
         blockrows,
         1,
-        position,
+        place,
         none,
         radius,
     ));
@@ -360,17 +360,17 @@ fn chequer_counts() -> [u32; 25] {
     counts
 }
 
-fn lay_score(position: World, offset: Offset) {
+fn lay_score(place: World, offset: Offset) {
     let counts = chequer_counts();
     let mut scores = [7.0f64; 25];
-    answered(scores::update_feasibility(&mut scores, &counts, 5, 5, 2, position, offset));
+    answered(scores::update_feasibility(&mut scores, &counts, 5, 5, 2, place, offset));
     plane_of(&scores, 5);
 }
 
-fn lift_score(down: Span, across: Span) {
+fn lift_score(rowspan: Span, colspan: Span) {
     let counts = chequer_counts();
     let mut scores = [7.0f64; 25];
-    answered(scores::aggregate_feasibility(&mut scores, &counts, 5, 5, 2, down, across));
+    answered(scores::aggregate_feasibility(&mut scores, &counts, 5, 5, 2, rowspan, colspan));
     plane_of(&scores, 5);
 }
 
@@ -405,12 +405,12 @@ fn both_scores(
     counts: &[u32],
     rows: usize,
     tiles: usize,
-    position: World,
-    across: Span,
+    place: World,
+    colspan: Span,
 ) {
     let none = Offset(0, 0);
-    answered(scores::update_feasibility(scores, counts, rows, 3, tiles, position, none));
-    answered(scores::aggregate_feasibility(scores, counts, rows, 3, tiles, Span(0, 0), across));
+    answered(scores::update_feasibility(scores, counts, rows, 3, tiles, place, none));
+    answered(scores::aggregate_feasibility(scores, counts, rows, 3, tiles, Span(0, 0), colspan));
     line(scores);
 }
 

@@ -7,7 +7,7 @@ use lib.Dec.{leb}
 use lib.Ieee.{Float}
 use Rattle.base.specs.Counting.{pick}
 use Rattle.base.specs.Tables.{those}
-use Rattle.rules.specs.Grid.{cellAt, numberOf}
+use Rattle.rules.specs.Grid.{cellAt, entryOf}
 use Rattle.rules.specs.Scores.{fraction, squaredFraction, meanOf}
 
 -- the fraction of a cell, squared where `squared` says so
@@ -17,7 +17,7 @@ termOf true counts tiles k = squaredFraction counts tiles k
 
 -- row i of the box of the cell (r, c): columns c-2..=c, from the first that the grid has
 abbrev pub placeIn : ℕ → ℕ → ℕ → ℕ → ℕ → ℕ
-placeIn cols r c i j = numberOf cols (cellAt (r + i - 2) (c + j - 2))
+placeIn cols r c i j = entryOf cols (cellAt (r + i - 2) (c + j - 2))
 
 unfoldable pub boxRow : ℕ → ℕ → ℕ → ℕ → List ℕ
 boxRow cols r c i = those 3 (leb (2 - c)) (placeIn cols r c i)

@@ -5,7 +5,7 @@ ghost use mathlib.Core.Bool.{true};
 ghost use Prim.Native.Nat.{_-_, _<_, _≤_};
 ghost use lib.ListN.{length};
 ghost use Rattle.base.specs.Tables.{fold};
-ghost use Rattle.rules.specs.Tests.{tileNumber};
+ghost use Rattle.rules.specs.Tests.{tileNumberFits};
 ghost use Rattle.rules.specs.Promises.{before};
 ghost use Rattle.rules.specs.Floats.{zero64};
 ghost use Rattle.rules.specs.Scores.{plusTerm};
@@ -14,7 +14,7 @@ ghost use Rattle.score_mean.specs.Fits.{CellFits};
 
 // Fraction = count / tiles.
 fn term(squared: bool, counts: &[u32], tiles: usize, k: usize) -> f64
-    requires { ⌜ (tileNumber tiles ≡ true) × (k < length (now counts)) ⌝ }
+    requires { ⌜ (tileNumberFits tiles ≡ true) × (k < length (now counts)) ⌝ }
     ensures { λ r. ⌜ r ≡ termOf squared (before counts) tiles k ⌝ }
 {
     let fraction = counts[k] as f64 / tiles as f64;

@@ -7,7 +7,7 @@ use mathlib.Core.List.{List}
 use lib.ListN.{length}
 use lib.Ieee.{Float, nan}
 use Rattle.base.specs.Regions.{RegionFits, overRegion}
-use Rattle.rules.specs.Tests.{tileNumber}
+use Rattle.rules.specs.Tests.{tileNumberFits}
 use Rattle.rules.specs.declared.Span.{Span}
 use Rattle.score_mean.specs.Box.{scoreAt}
 
@@ -25,5 +25,5 @@ pastTargets side s = record { 0 = min (s .0 + 2) (min (s .1 + 1) side); 1 = min 
 
 pub record ScoresFit (scores : List Float) (counts : List ℕ) (cols tiles : ℕ) (rowspan colspan : Span) : Type 0 where
   pub region : RegionFits (length scores) cols (rowspan .0) (rowspan .1) (colspan .0) (colspan .1)
-  pub number : tileNumber tiles ≡ true
+  pub number : tileNumberFits tiles ≡ true
   pub long : length counts ≡ length scores

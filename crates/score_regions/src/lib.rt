@@ -6,7 +6,7 @@ ghost use lib.ListN.{length};
 ghost use lib.Ieee.{nan};
 ghost use Rattle.base.specs.Regions.{overRow};
 ghost use Rattle.rules.specs.Bounds.{maxBoardSide};
-ghost use Rattle.rules.specs.Tests.{tileNumber};
+ghost use Rattle.rules.specs.Tests.{tileNumberFits};
 ghost use Rattle.rules.specs.Promises.{before, after};
 ghost use Rattle.score_regions.specs.Region.{scoreStep, regionScored, pastTargets, ScoresFit};
 use rules::Span;
@@ -22,7 +22,7 @@ fn score_row(
     r: usize,
     left: usize,
 )
-    requires { ⌜ (tileNumber tiles ≡ true) × (r * cols + cols ≤ length (now counts)) × (left + length (now row) ≤ cols) ⌝ }
+    requires { ⌜ (tileNumberFits tiles ≡ true) × (r * cols + cols ≤ length (now counts)) × (left + length (now row) ≤ cols) ⌝ }
     ensures { λ _. ⌜ after row ≡ overRow nan (scoreStep squared (before counts) tiles cols) r left (before row) ⌝ }
 {
     let mut j = 0;

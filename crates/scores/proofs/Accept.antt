@@ -10,7 +10,7 @@ use borrow.Author.Tests.{leb-true}
 use Rattle.base.specs.Refusal.{refusal}
 use Rattle.base.proofs.Chain.{Passes, all-pass}
 use Rattle.check_sizes.proofs.Sides.{long}
-use Rattle.rules.specs.Tests.{boardSides, tileNumber, noneAbove}
+use Rattle.rules.specs.Tests.{boardSides, tileNumberFits, noneAbove}
 use Rattle.rules.specs.Floats.{isFinite, allAre}
 use Rattle.rules.specs.Scores.{scoreChecks, layScoreChecks, liftScoreChecks}
 use Rattle.rules.specs.declared.World.{World}
@@ -22,7 +22,7 @@ module _ (scores : List Float) (counts : List ℕ) (rows cols tiles : ℕ) where
   pub record PlanesPass : Type 0 where
     pub scores-long : length scores ≡ rows * cols
     pub counts-long : length counts ≡ rows * cols
-    pub number : tileNumber tiles ≡ true
+    pub number : tileNumberFits tiles ≡ true
     pub none-above : noneAbove counts tiles ≡ true
     pub finite : allAre isFinite scores ≡ true
 

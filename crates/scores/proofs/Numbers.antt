@@ -14,7 +14,7 @@ use Rattle.base.specs.Tables.{fold}
 use Rattle.base.proofs.Bools.{by-test}
 use Rattle.base.proofs.Numbers.{row-lt, col-lt, mul-le}
 use Rattle.check_sizes.proofs.Sides.{board-cols, tiles-least, tiles-most}
-use Rattle.rules.specs.Tests.{boardSides, tileNumber}
+use Rattle.rules.specs.Tests.{boardSides, tileNumberFits}
 use Rattle.rules.specs.Floats.{zero64, floatOf, isFinite, noNan, allAre}
 use Rattle.rules.specs.Scores.{fraction, squaredFraction, plusTerm, meanOf, boxCells, scored, layFalls, liftFalls, layScores, liftScores, layScoreChecks, liftScoreChecks}
 use Rattle.rules.specs.Promises.{ScoresLay, ScoresLift}
@@ -27,13 +27,13 @@ use Rattle.rules.proofs.Floats.{upward, upward-number, finite-number, plus-upwa
 use Rattle.score_mean.proofs.Box.{box-is, box-length}
 use Rattle.scores.proofs.Accept.{lay-passes, lift-passes}
 
-pub fraction-upward : (counts : List ℕ) (tiles k : ℕ) → tileNumber tiles ≡ true → T (upward (fraction counts tiles k))
+pub fraction-upward : (counts : List ℕ) (tiles k : ℕ) → tileNumberFits tiles ≡ true → T (upward (fraction counts tiles k))
 unfolding fraction
 fraction-upward counts tiles k e =
     over-upward (floatOf (getD counts k 0)) (floatOf tiles) (count-upward (getD counts k 0))
     (count-positive tiles (tiles-least tiles e) (omega (arith, tiles-most tiles e)))
 
-pub squared-upward : (counts : List ℕ) (tiles k : ℕ) → tileNumber tiles ≡ true → T (upward (squaredFraction counts tiles k))
+pub squared-upward : (counts : List ℕ) (tiles k : ℕ) → tileNumberFits tiles ≡ true → T (upward (squaredFraction counts tiles k))
 unfolding squaredFraction
 squared-upward counts tiles k e = square-upward (fraction counts tiles k) (fraction-upward counts tiles k e)
 

@@ -75,8 +75,8 @@ scores-fit scores counts rows cols tiles sides p rs cs rl rr cl cr =
       region =
           record {
             wide = board-cols rows cols sides .0;
-            down = rl;
-            across = cl;
+            rowwise = rl;
+            colwise = cl;
             ends = cr;
             room = omega (arith, mul-le-mul-right cols rr, p .scores-long);
           };

@@ -54,10 +54,10 @@ fn lay_refused(
     rows: usize,
     cols: usize,
     tiles: usize,
-    position: World,
+    place: World,
     offset: Offset,
 ) -> u8
-    ensures { λ r. ⌜ r ≡ refusal (layScoreChecks (before scores) (before counts) rows cols tiles position offset) ⌝ }
+    ensures { λ r. ⌜ r ≡ refusal (layScoreChecks (before scores) (before counts) rows cols tiles place offset) ⌝ }
 {
     if !check_sizes::board_sides(rows, cols) {
         return rules::SHAPE;
@@ -66,7 +66,7 @@ fn lay_refused(
     if refused != 0 {
         return refused;
     }
-    places::place_refused(rows, cols, position, offset)
+    places::place_refused(rows, cols, place, offset)
 }
 
 fn lift_refused(
@@ -99,25 +99,25 @@ pub fn update_feasibility(
     rows: usize,
     cols: usize,
     tiles: usize,
-    position: World,
+    place: World,
     offset: Offset,
 ) -> Written
-    ensures { λ a. ⌜ ScoresLay rows cols (before counts) tiles position offset (before scores) a (after scores) ⌝ }
+    ensures { λ a. ⌜ ScoresLay rows cols (before counts) tiles place offset (before scores) a (after scores) ⌝ }
 {
-    let refused = lay_refused(scores, counts, rows, cols, tiles, position, offset);
+    let refused = lay_refused(scores, counts, rows, cols, tiles, place, offset);
     if refused != 0 {
         return Written::Refused(refused);
     }
     // A place that was not refused has spans.
-    let SpanAnswer::Spans(down, across) = place_spans::get_region_spans(
+    let SpanAnswer::Spans(rowround, colround) = place_spans::get_region_spans(
         offset,
-        position,
+        place,
         ADJACENCY_LEVELS,
     ) else {
         return Written::Refused(rules::PLACE);
     };
-    let rowspan = past_targets(rows, down);
-    let colspan = past_targets(cols, across);
+    let rowspan = past_targets(rows, rowround);
+    let colspan = past_targets(cols, colround);
     score_region(scores, false, counts, tiles, cols, rowspan, colspan);
     Written::Done
 }

@@ -24,7 +24,7 @@ use Rattle.rules.specs.Bounds.{maxColours, bare, maxBoardSide, maxWeight, TYPE,
 use Rattle.rules.specs.Tests.{boardSides, hasLength, wholeTiles, tilesIn, colourCount, noneAbove, entryUpTo, piecesStored, pieceStored, offsetFits}
 use Rattle.rules.specs.Grid.{laidOn}
 use Rattle.rules.specs.Fit.{placeChecks}
-use Rattle.rules.specs.Board.{Panel, shapeOf, numberIn, Board, weightsOf, countsOf, boardOf, laid, boardChecks, afterLay, afterLift}
+use Rattle.rules.specs.Board.{Panel, shapeOf, entryIn, Board, weightsOf, countsOf, boardOf, laid, boardChecks, afterLay, afterLift}
 use Rattle.rules.specs.declared.World.{World}
 use Rattle.stand.specs.Runs.{Call, lay, lift, placeOf, countOf, refusalOf, step, says}
 use Rattle.stand.proofs.Shared.{Sound, laid-is, lifted-is, bare-off, weight-low, count-low}
@@ -50,7 +50,7 @@ ownChecks x (lift count w) = BARE unless ltb 1 x
 
 -- the cell of a call
 abbrev pub cellBy : Panel → Call → ℕ
-cellBy j c = numberIn j (placeOf c)
+cellBy j c = entryIn j (placeOf c)
 
 pub record Taken (j : Panel) (p : List ℕ) (c : Call) : Type 0 where
   pub panel : InBounds j
@@ -143,14 +143,14 @@ module _ (j : Panel) where
   abbrev pub moved : List ℕ → Call → List ℕ
   moved p c = unlessRefused (refusalOf j (ofPieces j p) c) (says j p c) p
 
-  cell-of-pieces : (p : List ℕ) {w : World} → Good j p → On j w → numberIn j w < length p
+  cell-of-pieces : (p : List ℕ) {w : World} → Good j p → On j w → entryIn j w < length p
   cell-of-pieces p good on = omega (arith, good .long, cell-in j on)
 
   -- the rule of lay on a board that is what its pieces say
   pub laid-of : Sound (shapeOf j) → (p : List ℕ) (count : ℕ) (w : World) (colour : ℕ) → Good j p → Taken j p (lay count w colour)
-      → laid (shapeOf j) (j .tiles) (ofPieces j p) (numberIn j w) colour ≡ ofPieces j (says j p (lay count w colour))
+      → laid (shapeOf j) (j .tiles) (ofPieces j p) (entryIn j w) colour ≡ ofPieces j (says j p (lay count w colour))
   laid-of sound p count w colour good t =
-      laid-is (shapeOf j) sound (j .tiles) p (numberIn j w) colour (cell-of-pieces p good (t .on)) (not-true _ (t .own .1)) (within-low 1 count colour (t .own .0))
+      laid-is (shapeOf j) sound (j .tiles) p (entryIn j w) colour (cell-of-pieces p good (t .on)) (not-true _ (t .own .1)) (within-low 1 count colour (t .own .0))
 
   pub step-is : Sound (shapeOf j) → (p : List ℕ) (c : Call) → Good j p → step j (ofPieces j p) c ≡ ofPieces j (moved p c)
   unfolding afterLay afterLift boardOf
@@ -161,7 +161,7 @@ module _ (j : Panel) where
       through (refusalOf j (ofPieces j p) (lift count w)) (ofPieces j) _ _ p
       (λ e.
       let t = accepts j (ofPieces j p) (lift count w) e in
-      lifted-is (shapeOf j) sound (j .tiles) p (numberIn j w) (cell-of-pieces p good (t .on)) (t .own))
+      lifted-is (shapeOf j) sound (j .tiles) p (entryIn j w) (cell-of-pieces p good (t .on)) (t .own))
 
   -- ---- what holds of the pieces from the fresh board on
 
@@ -210,9 +210,9 @@ module _ (j : Panel) where
 
   pub says-good : (p : List ℕ) (c : Call) → Good j p → Taken j p c → Good j (says j p c)
   says-good p (lay count w colour) good t =
-      put-good p (numberIn j w) (colour + 1) good (t .panel, largest count (t .named)) (cell-in j (t .on)) (omega arith)
+      put-good p (entryIn j w) (colour + 1) good (t .panel, largest count (t .named)) (cell-in j (t .on)) (omega arith)
       (omega (arith, few count (t .named), within-high 1 count colour (t .own .0)))
-  says-good p (lift count w) good t = put-good p (numberIn j w) bare good (t .panel, largest count (t .named)) (cell-in j (t .on)) (omega arith) (omega arith)
+  says-good p (lift count w) good t = put-good p (entryIn j w) bare good (t .panel, largest count (t .named)) (cell-in j (t .on)) (omega arith) (omega arith)
 
   pub moved-good : (p : List ℕ) (c : Call) → Good j p → Good j (moved p c)
   unfolding boardOf
@@ -221,8 +221,8 @@ module _ (j : Panel) where
   -- a call leaves colours of the count that it names where it found such
   pub says-stored : (p : List ℕ) (c : Call) → Taken j p c → piecesStored (says j p c) (countOf c) ≡ true
   says-stored p (lay count w colour) t =
-      put-stored p count (numberIn j w) (colour + 1) (t .stored) (omega arith) (omega (arith, within-high 1 count colour (t .own .0)))
-  says-stored p (lift count w) t = put-stored p count (numberIn j w) bare (t .stored) (omega arith) (omega arith)
+      put-stored p count (entryIn j w) (colour + 1) (t .stored) (omega arith) (omega (arith, within-high 1 count colour (t .own .0)))
+  says-stored p (lift count w) t = put-stored p count (entryIn j w) bare (t .stored) (omega arith) (omega arith)
 
   pub moved-stored : (p : List ℕ) (c : Call) → piecesStored p (countOf c) ≡ true → piecesStored (moved p c) (countOf c) ≡ true
   unfolding boardOf

@@ -9,7 +9,7 @@ use lib.Dec.{ltb}
 use borrow.Author.Tests.{ltb-true, lt-ltb}
 use Rattle.base.proofs.Bools.{and-left, and-right, and-both, pick-yes}
 use Rattle.base.proofs.Numbers.{row-of, col-of}
-use Rattle.rules.specs.Grid.{cellAt, numberOf, numberOrPast, onGrid, flat, gap}
+use Rattle.rules.specs.Grid.{cellAt, entryOf, entryOrPast, onGrid, flat, gap}
 use Rattle.stand.proofs.Shared.{Sound}
 
 near : (a b d : ℕ) → a ≡ b + d → d ≤ 2 → gap a b ≤ 2
@@ -18,9 +18,9 @@ near a b d e h = omega arith
 not-both : {a b : ℕ} → a ≤ 2 → b ≤ 2 → 2 < max a b → ⊥
 not-both p q far = omega arith
 
--- the number of a cell that lies on the board
-number-in : (rows cols r c : ℕ) → r < rows → c < cols → numberOrPast rows cols (cellAt r c) ≡ numberOf cols (cellAt r c)
-unfolding numberOrPast
+-- the entry of a cell that lies on the board
+number-in : (rows cols r c : ℕ) → r < rows → c < cols → entryOrPast rows cols (cellAt r c) ≡ entryOf cols (cellAt r c)
+unfolding entryOrPast
 number-in rows cols r c r< c< =
     pick-yes (onGrid rows cols (cellAt r c)) _ _ (and-both (ltb r rows) (ltb c cols) (lt-ltb r rows r<) (lt-ltb c cols c<))
 
@@ -31,14 +31,14 @@ flat-sound rows cols = record { unseen = unseen }
     unseen : (k s i : ℕ) → i < 9
         → (ltb (s / cols + 2) rows && ltb (s % cols + 2) cols) ≡ true
         → 2 < max (gap (k / cols) (s / cols)) (gap (k % cols) (s % cols))
-        → numberOrPast rows cols (cellAt (s / cols + i / 3) (s % cols + i % 3)) ≢ k
+        → entryOrPast rows cols (cellAt (s / cols + i / 3) (s % cols + i % 3)) ≢ k
     unseen k s i i< inside far shown =
-        let down : s / cols + 2 < rows = ltb-true (s / cols + 2) rows (and-left (ltb (s / cols + 2) rows) (ltb (s % cols + 2) cols) inside) in
+        let rowwise : s / cols + 2 < rows = ltb-true (s / cols + 2) rows (and-left (ltb (s / cols + 2) rows) (ltb (s % cols + 2) cols) inside) in
         let right : s % cols + 2 < cols = ltb-true (s % cols + 2) cols (and-right (ltb (s / cols + 2) rows) (ltb (s % cols + 2) cols) inside) in
         let i/3 : i / 3 ≤ 2 = omega arith in
         let i%3 : i % 3 ≤ 2 = omega arith in
         let c< : s % cols + i % 3 < cols = omega arith in
-        let at : k ≡ numberOf cols (cellAt (s / cols + i / 3) (s % cols + i % 3)) = sym shown ∙ number-in rows cols _ _ (omega arith) c< in
+        let at : k ≡ entryOf cols (cellAt (s / cols + i / 3) (s % cols + i % 3)) = sym shown ∙ number-in rows cols _ _ (omega arith) c< in
         not-both
         (near (k / cols) (s / cols) (i / 3) (ap (λ (n : ℕ). n / cols) at ∙ row-of (s / cols + i / 3) c<) i/3)
         (near (k % cols) (s % cols) (i % 3) (ap (λ (n : ℕ). n % cols) at ∙ col-of (s / cols + i / 3) c<) i%3)

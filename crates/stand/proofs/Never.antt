@@ -24,7 +24,7 @@ use Rattle.base.proofs.Tabled.{fold-append}
 use Rattle.rules.specs.Bounds.{maxColours, bare}
 use Rattle.rules.specs.Tests.{piecesStored}
 use Rattle.rules.specs.Grid.{laidOn}
-use Rattle.rules.specs.Board.{Panel, shapeOf, numberIn, Board, boardOf, afterLay, afterLift}
+use Rattle.rules.specs.Board.{Panel, shapeOf, entryIn, Board, boardOf, afterLay, afterLift}
 use Rattle.rules.specs.Promises.{panel}
 use Rattle.rules.specs.declared.World.{World}
 use Rattle.rules.specs.declared.Offset.{Offset}
@@ -57,7 +57,7 @@ module _ (j : Panel) where
 
   module _ (w : World) (count : ℕ) (panel : InBounds j) (named : Named j count) (on : On j w) where
     abbrev k : ℕ
-    k = numberIn j w
+    k = entryIn j w
 
     -- all pieces have colours of the count that the calls name
     abbrev Stored : List ℕ → Type 0
@@ -99,8 +99,8 @@ module _ (j : Panel) where
         bare-stored = put-stored q (countOf c) k bare here (omega arith) (omega arith)
 
         at : (c : Call) → cellBy j c ≢ k → says j (without q) c ≡ without (says j q c)
-        at (lay n v colour) ne = set-comm q k (numberIn j v) bare (colour + 1) (λ z. ne (sym z))
-        at (lift n v) ne = set-comm q k (numberIn j v) bare bare (λ z. ne (sym z))
+        at (lay n v colour) ne = set-comm q k (entryIn j v) bare (colour + 1) (λ z. ne (sym z))
+        at (lift n v) ne = set-comm q k (entryIn j v) bare bare (λ z. ne (sym z))
 
     -- the pieces keep colours of the count
     keeps : (q : List ℕ) (c : Call) → Stored q → countOf c ≡ count → Stored (moved j q c)
@@ -178,11 +178,11 @@ module _ (j : Panel) (sound : Sound (shapeOf j)) where
       kept : piecesStored q count ≡ true
       kept = moved-stored j p (lay count w colour) (t .stored)
 
-      back : set q (numberIn j w) bare ≡ p
+      back : set q (entryIn j w) bare ≡ p
       back =
-          ap (λ (r : List ℕ). set r (numberIn j w) bare) (has-new _ (says j p (lay count w colour)) p lays′)
-          ∙ set-set p (numberIn j w) (colour + 1) bare
-          ∙ bare-stays j p (numberIn j w) good (cell-in j (t .on)) (not-true _ (t .own .1))
+          ap (λ (r : List ℕ). set r (entryIn j w) bare) (has-new _ (says j p (lay count w colour)) p lays′)
+          ∙ set-set p (entryIn j w) (colour + 1) bare
+          ∙ bare-stays j p (entryIn j w) good (cell-in j (t .on)) (not-true _ (t .own .1))
 
   -- a piece laid and lifted at once leaves the very board that was there
   pub lifted-at-once : (calls : List Call) (w : World) (count colour : ℕ) → refusalOf j (run j (fresh j) calls) (lay count w colour) ≡ 0

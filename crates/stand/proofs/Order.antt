@@ -25,7 +25,7 @@ use Rattle.base.proofs.Swept.{swept, swept-none, swept-above, swept-turn, swept
 use Rattle.rules.specs.Bounds.{maxColours, bare}
 use Rattle.rules.specs.Tests.{colourCount, noneAbove, piecesStored, pieceStored}
 use Rattle.rules.specs.Grid.{laidOn, colourOn}
-use Rattle.rules.specs.Board.{Panel, shapeOf, numberIn, Board}
+use Rattle.rules.specs.Board.{Panel, shapeOf, entryIn, Board}
 use Rattle.stand.specs.Runs.{fresh, Call, lay, refusalOf, step, run, acceptedIn, says, Piece, wallOf, standing, Reordered, none, keep, swap, twice, laidAll, lays}
 use Rattle.stand.proofs.Shared.{Sound}
 use Rattle.stand.proofs.Walls.{cell-in, sides-in, wall-on, wall-cell}
@@ -37,7 +37,7 @@ module _ (j : Panel) (count : ℕ) where
   laying x = lay count (x .place) (x .colour)
 
   abbrev cell : Piece → ℕ
-  cell x = numberIn j (x .place)
+  cell x = entryIn j (x .place)
 
   -- each of these lays is taken, from the pieces q on, and they leave the pieces r
   abbrev Lays : List ℕ → List Piece → List ℕ → Type 0

@@ -16,7 +16,7 @@ use Rattle.base.proofs.Signs.{eqZ-true, index-clip, index-pos}
 use Rattle.rules.specs.Bounds.{maxBoardSide, minCoordinate, maxCoordinate, minOffset, maxOffset}
 use Rattle.rules.specs.Tests.{boardSides, onWall, offsetFits, onBoard}
 use Rattle.rules.specs.Places.{cellOf}
-use Rattle.rules.specs.Board.{Panel, numberIn}
+use Rattle.rules.specs.Board.{Panel, entryIn}
 use Rattle.rules.specs.declared.World.{World}
 use Rattle.rules.specs.Places.{samePlace}
 use Rattle.stand.specs.Runs.{wallOf}
@@ -46,7 +46,7 @@ module _ (j : Panel) where
   unfolding onBoard
   col-on {w} on = and-right (indexBelow (j .rows) (rowZ w)) (indexBelow (j .cols) (colZ w)) (on .board)
 
-  pub cell-in : {w : World} → On j w → numberIn j w < j .rows * j .cols
+  pub cell-in : {w : World} → On j w → entryIn j w < j .rows * j .cols
   unfolding cellOf
   cell-in {w} on = cell-lt (index-clip (j .rows) (rowZ w) (row-on on)) (index-clip (j .cols) (colZ w) (col-on on))
 
@@ -57,7 +57,7 @@ module _ (j : Panel) where
       ∙ ap (λ (z : ℤ). z -ℤ o) (index-pos n (x +ℤ o) p ∙ ap pos e ∙ sym (index-pos n (y +ℤ o) q))
       ∙ +ℤ-negℤ-cancel y o
 
-  pub same-place : (v w : World) → On j v → On j w → numberIn j v ≡ numberIn j w → samePlace v w ≡ true
+  pub same-place : (v w : World) → On j v → On j w → entryIn j v ≡ entryIn j w → samePlace v w ≡ true
   unfolding samePlace cellOf
   same-place v w onv onw e =
       let cv : clip (colZ v) < j .cols = index-clip (j .cols) (colZ v) (col-on onv) in
@@ -71,7 +71,7 @@ module _ (j : Panel) where
       and-both (eqZ (v .0) (w .0)) (eqZ (v .1) (w .1)) (rw r (eqZ-same (w .0))) (rw c (eqZ-same (w .1)))
 
   -- and one place has one cell
-  pub same-cell : (v w : World) → samePlace v w ≡ true → numberIn j v ≡ numberIn j w
+  pub same-cell : (v w : World) → samePlace v w ≡ true → entryIn j v ≡ entryIn j w
   unfolding samePlace cellOf
   same-cell v w e =
       let r : v .0 ≡ w .0 = eqZ-true (v .0) (w .0) (and-left (eqZ (v .0) (w .0)) (eqZ (v .1) (w .1)) e) in
@@ -132,7 +132,7 @@ wall-on j k sides fits k< =
     }
 
 -- and its cell is k
-pub wall-cell : (j : Panel) (k : ℕ) → numberIn j (wallOf j k) ≡ k
+pub wall-cell : (j : Panel) (k : ℕ) → entryIn j (wallOf j k) ≡ k
 unfolding wallOf cellOf
 wall-cell j k =
     rw (-ℤ-+ℤ-cancel (pos (k / j .cols)) (j .offset .0), -ℤ-+ℤ-cancel (pos (k % j .cols)) (j .offset .1)) (cell-is k (j .cols))

@@ -14,7 +14,7 @@ use Rattle.rules.specs.Bounds.{bare}
 use Rattle.rules.specs.Tests.{tilesIn}
 use Rattle.rules.specs.Places.{samePlace}
 use Rattle.rules.specs.Grid.{cellWith, laidOn, colourOn}
-use Rattle.rules.specs.Board.{Panel, shapeOf, numberIn, Board, freshBoard, laid, layChecks, liftChecks, afterLay, afterLift}
+use Rattle.rules.specs.Board.{Panel, shapeOf, entryIn, Board, freshBoard, laid, layChecks, liftChecks, afterLay, afterLift}
 use Rattle.rules.specs.declared.World.{World}
 use Rattle.rules.specs.declared.Cell.{Cell}
 
@@ -28,22 +28,22 @@ pub data Call : Type 0 where
   lift : ℕ → World → Call
 
 abbrev pub placeOf : Call → World
-placeOf (lay count w colour) = w
-placeOf (lift count w) = w
+placeOf (lay count place colour) = place
+placeOf (lift count place) = place
 
 abbrev pub countOf : Call → ℕ
-countOf (lay count w colour) = count
-countOf (lift count w) = count
+countOf (lay count place colour) = count
+countOf (lift count place) = count
 
 -- the number that a call is refused with, 0 where it is accepted
 abbrev pub refusalOf : Panel → Board → Call → ℕ
-refusalOf j b (lay count w colour) = refusal (layChecks j count b w colour)
-refusalOf j b (lift count w) = refusal (liftChecks j count b w)
+refusalOf j b (lay count place colour) = refusal (layChecks j count b place colour)
+refusalOf j b (lift count place) = refusal (liftChecks j count b place)
 
 -- the board that a call leaves, as the contracts of lay and lift say it
 abbrev pub step : Panel → Board → Call → Board
-step j b (lay count w colour) = afterLay j count b w colour
-step j b (lift count w) = afterLift j count b w
+step j b (lay count place colour) = afterLay j count b place colour
+step j b (lift count place) = afterLift j count b place
 
 -- one call after the other, whatever they answer
 unfoldable pub run : Panel → Board → List Call → Board
@@ -60,8 +60,8 @@ acceptedIn j b (c ∷ calls) =
 
 -- a lay says that its colour stands there, a lift that its cell is bare
 abbrev pub says : Panel → List ℕ → Call → List ℕ
-says j pieces (lay count w colour) = set pieces (numberIn j w) (colour + 1)
-says j pieces (lift count w) = set pieces (numberIn j w) bare
+says j pieces (lay count place colour) = set pieces (entryIn j place) (colour + 1)
+says j pieces (lift count place) = set pieces (entryIn j place) bare
 
 -- what the calls say one after the other, of a board that was bare
 unfoldable pub told : Panel → List Call → List ℕ
@@ -101,7 +101,7 @@ pub data Reordered : List Piece → List Piece → Type 0 where
 
 -- each piece laid by the rule alone, without the checks of a call
 unfoldable pub laidAll : Panel → Board → List Piece → Board
-laidAll j b pieces = fold (λ c p. laid (shapeOf j) (j .tiles) c (numberIn j (p .place)) (p .colour)) b pieces
+laidAll j b pieces = fold (λ c p. laid (shapeOf j) (j .tiles) c (entryIn j (p .place)) (p .colour)) b pieces
 
 -- one call of lay for each piece, all of which name so many colours
 unfoldable pub lays : ℕ → List Piece → List Call
@@ -114,7 +114,7 @@ abbrev pub Naming : ℕ → List Call → Type 0
 Naming count [] = Unit
 Naming count (c ∷ calls) = (countOf c ≡ count) × Naming count calls
 
--- the calls that name another place than w
+-- the calls that name another place than this one
 unfoldable pub elsewhere : World → List Call → List Call
-elsewhere w [] = []
-elsewhere w (c ∷ calls) = pick (samePlace (placeOf c) w) (elsewhere w calls) (c ∷ elsewhere w calls)
+elsewhere place [] = []
+elsewhere place (c ∷ calls) = pick (samePlace (placeOf c) place) (elsewhere place calls) (c ∷ elsewhere place calls)

@@ -15,7 +15,7 @@ use Rattle.base.proofs.Bools.{and-both, and-no-left, and-no-right, pick-yes, pi
 use Rattle.base.proofs.Numbers.{mul-le}
 use Rattle.base.proofs.Tabled.{length-tab}
 use Rattle.rules.specs.Bounds.{maxTiles}
-use Rattle.rules.specs.Grid.{cellAt, numberOf, onGrid}
+use Rattle.rules.specs.Grid.{cellAt, entryOf, onGrid}
 use Rattle.rules.specs.Tiles.{sampleCell, startsAlong, windowTile, rotated, reflected, turned, turns, forms, form, variant, variants}
 
 -- a cell of the sample, or past its last row, or past its last column
@@ -24,7 +24,7 @@ module _ (sample : List ℕ) (rows cols r c : ℕ) where
   inside = onGrid rows cols (cellAt r c)
 
   abbrev held : ℕ
-  held = getD sample (numberOf cols (cellAt r c)) 0
+  held = getD sample (entryOf cols (cellAt r c)) 0
 
   pub cell-below : rows ≤ r → 0 ≡ sampleCell sample rows cols r c
   unfolding sampleCell
@@ -76,13 +76,13 @@ module _ (rotations : Bool) (i n : ℕ) (tile t : List ℕ) (e : n ≡ turns rot
 -- ---- the variants of a sample
 
 module _ (sample : List ℕ) (rows cols : ℕ) (rotations reflections : Bool) where
-  pub variant-is : (v n across : ℕ) (tile t : List ℕ) → n ≡ forms rotations reflections → across ≡ startsAlong cols
-      → tile ≡ windowTile sample rows cols (v / n / across) (v / n % across) → t ≡ form rotations (v % n) tile
+  pub variant-is : (v n wide : ℕ) (tile t : List ℕ) → n ≡ forms rotations reflections → wide ≡ startsAlong cols
+      → tile ≡ windowTile sample rows cols (v / n / wide) (v / n % wide) → t ≡ form rotations (v % n) tile
       → t ≡ variant sample rows cols rotations reflections v
   unfolding variant
-  variant-is v n across tile t e f p q =
+  variant-is v n wide tile t e f p q =
       q ∙ ap (form rotations (v % n)) p
-      ∙ ap (λ (m : ℕ). form rotations (v % m) (windowTile sample rows cols (v / m / across) (v / m % across))) e
+      ∙ ap (λ (m : ℕ). form rotations (v % m) (windowTile sample rows cols (v / m / wide) (v / m % wide))) e
       ∙ ap (λ (m : ℕ). form rotations (v % forms rotations reflections) (windowTile sample rows cols (v / forms rotations reflections / m) (v / forms rotations reflections % m))) f
 
   turned-length : (n : ℕ) (tile : List ℕ) → length tile ≡ 9 → length (turned n tile) ≡ 9

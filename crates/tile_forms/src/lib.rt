@@ -144,9 +144,9 @@ pub fn variant_of(
     ensures { λ t. ⌜ t ≡ variant (before sample) rows cols rotations reflections v ⌝ }
 {
     let n = forms_of(rotations, reflections);
-    let across = starts_along(cols);
+    let wide = starts_along(cols);
     let w = v / n;
-    let tile = window_tile(sample, rows, cols, w / across, w % across);
+    let tile = window_tile(sample, rows, cols, w / wide, w % wide);
     form_of(rotations, v % n, tile)
 }
 

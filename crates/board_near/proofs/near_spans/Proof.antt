@@ -8,8 +8,8 @@ use Rattle.board_near.proofs.near_spans.Tie as tie
 get-region-spans-requires : tie.Need-get-region-spans-requires
 get-region-spans-requires c κs = search needs
 
-enum-known-down : tie.Need-enum-known-down
-enum-known-down c = search needs
+enum-known-rowspan : tie.Need-enum-known-rowspan
+enum-known-rowspan c = search needs
 
 enum-told : tie.Need-enum-told
 enum-told c = search needs
@@ -32,7 +32,7 @@ clipped-requires-2 c κs = search needs
 returns-3 : tie.Need-returns-3
 returns-3 c =
     rw (c .before .clipped .ensures, c .clipped2 .ensures)
-    (some-spans _ _ _ _ _ _ _ (c .before .before .before .before .before .down .given .1) (c .before .before .before .before .before .before .before .get-region-spans .ensures)
+    (some-spans _ _ _ _ _ _ _ (c .before .before .before .before .before .rowspan .given .1) (c .before .before .before .before .before .before .before .get-region-spans .ensures)
     (passes _ (c .before .before .before .on-board .ensures) (c .before .before .if1 .left)))
 
 pub near-spans-spec : {M : Type 1} → statement M
@@ -40,7 +40,7 @@ near-spans-spec =
     tie.close
     (tie.spec
     get-region-spans-requires
-    enum-known-down
+    enum-known-rowspan
     enum-told
     returns
     on-board-requires

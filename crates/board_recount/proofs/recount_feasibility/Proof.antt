@@ -24,8 +24,8 @@ returns c = search (chain, answers) depth 20 fits 5000
 near-spans-requires : tie.Need-near-spans-requires
 near-spans-requires c κs = search needs
 
-enum-known-down : tie.Need-enum-known-down
-enum-known-down c = search needs
+enum-known-rowspan : tie.Need-enum-known-rowspan
+enum-known-rowspan c = search needs
 
 enum-told : tie.Need-enum-told
 enum-told c = search needs
@@ -38,16 +38,16 @@ returns-2 c = search (chain, answers, placing) depth 20 fits 5000
 
 -- all checks have passed, and what the recount leans on then
 made : (c : tie.After-known-told)
-    → let a = c .before .before .before .before .before .before .before .before .before .before .args in 0 ≡ refusal (recountChecks (a .counts .now) (a .pieces .now) (a .rows) (a .cols) (a .tiles .now) (a .count) (a .position) (a .offset))
+    → let a = c .before .before .before .before .before .before .before .before .before .before .args in 0 ≡ refusal (recountChecks (a .counts .now) (a .pieces .now) (a .rows) (a .cols) (a .tiles .now) (a .count) (a .place) (a .offset))
 made c = search (chain, placing) depth 20 fits 5000
 
 leans : (c : tie.After-known-told)
-    → let a = c .before .before .before .before .before .before .before .before .before .before .args in Planed (a .counts .now) (a .pieces .now) (a .rows) (a .cols) (a .tiles .now) (a .position) (a .offset)
+    → let a = c .before .before .before .before .before .before .before .before .before .before .args in Planed (a .counts .now) (a .pieces .now) (a .rows) (a .cols) (a .tiles .now) (a .place) (a .offset)
 leans c = planed _ _ _ _ _ _ _ _ (made c)
 
 recount-near-requires : tie.Need-recount-near-requires
 recount-near-requires c κs =
-    let k = c .before in (in-spans _ _ _ _ _ _ (leans k .on) (nearby _ _ _ _ _ _ _ (k .before .down .given .1) (k .before .before .before .near-spans .ensures)), leans k .ready)
+    let k = c .before in (in-spans _ _ _ _ _ _ (leans k .on) (nearby _ _ _ _ _ _ _ (k .before .rowspan .given .1) (k .before .before .before .near-spans .ensures)), leans k .ready)
 
 same-length-3 : tie.Need-same-length-3
 same-length-3 c = search needs
@@ -55,7 +55,7 @@ same-length-3 c = search needs
 returns-3 : tie.Need-returns-3
 returns-3 c =
     let k = c .before .before .before .before in
-    done _ _ _ (made k) (c .before .before .recount-near .ensures ∙ recounted-is _ _ _ _ _ _ (leans k .on) (nearby _ _ _ _ _ _ _ (k .before .down .given .1) (k .before .before .before .near-spans .ensures)) _ _)
+    done _ _ _ (made k) (c .before .before .recount-near .ensures ∙ recounted-is _ _ _ _ _ _ (leans k .on) (nearby _ _ _ _ _ _ _ (k .before .rowspan .given .1) (k .before .before .before .near-spans .ensures)) _ _)
 
 pub recount-feasibility-spec : {M : Type 1} → statement M
 recount-feasibility-spec =
@@ -65,7 +65,7 @@ recount-feasibility-spec =
     same-length
     returns
     near-spans-requires
-    enum-known-down
+    enum-known-rowspan
     enum-told
     same-length-2
     returns-2

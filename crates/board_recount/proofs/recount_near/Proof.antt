@@ -12,11 +12,11 @@ use Rattle.board_recount.proofs.recount_near.Statement.{statement}
 use Rattle.board_recount.proofs.recount_near.Tie as tie
 
 abbrev Inv-loop : tie.InvT-loop
-Inv-loop counts₀ pieces rows cols tiles down across row₀ counts row =
-    RowsDone 0 (recountedBy (flat rows cols) cols tiles pieces) cols (down .0) (down .1) (across .0) (across .1) counts₀ counts row
+Inv-loop counts₀ pieces rows cols tiles rowspan colspan row₀ counts row =
+    RowsDone 0 (recountedBy (flat rows cols) cols tiles pieces) cols (rowspan .0) (rowspan .1) (colspan .0) (colspan .1) counts₀ counts row
 
 abbrev μ-loop : tie.MeasureT-loop
-μ-loop counts₀ pieces rows cols tiles down across row₀ counts row = down .1 - row
+μ-loop counts₀ pieces rows cols tiles rowspan colspan row₀ counts row = rowspan .1 - row
 
 -- the row is in the plane
 room : (c : tie.Then1 Inv-loop μ-loop)
@@ -62,8 +62,8 @@ recount-row-requires c κs =
     let s = t .before .before .before .before .before .before in
     let a = s .args in
     let g = s .pre .0 .region in
-    let from = l .row * a .cols + a .across .0 in
-    let to = l .row * a .cols + a .across .1 in (
+    let from = l .row * a .cols + a .colspan .0 in
+    let to = l .row * a .cols + a .colspan .1 in (
       s .pre .1,
       omega (arith, t .if1 .taken, s .pre .0 .bottom),
       omega (arith, length-part (l .counts) from to (omega (arith, room t, g, l .inv .long)), g),
@@ -82,7 +82,7 @@ loop-again c =
     let l = t .before .before .loop in
     let s = t .before .before .before .before .before .before in
     let a = s .args in
-    region-row 0 (recountedBy (flat (a .rows) (a .cols)) (a .cols) (a .tiles .now) (a .pieces .now)) _ _ _ _ _ _ (s .pre .0 .region) (l .inv) (l .row * a .cols + a .across .0) (l .row * a .cols + a .across .1) refl refl (t .if1 .taken)
+    region-row 0 (recountedBy (flat (a .rows) (a .cols)) (a .cols) (a .tiles .now) (a .pieces .now)) _ _ _ _ _ _ (s .pre .0 .region) (l .inv) (l .row * a .cols + a .colspan .0) (l .row * a .cols + a .colspan .1) refl refl (t .if1 .taken)
     (k .recount-row .ensures)
 
 same-length : tie.Need-same-length Inv-loop μ-loop

@@ -31,7 +31,7 @@ slice-read-count-after c = search needs
 count-after-requires : tie.Need-count-after-requires Inv-loop μ-loop
 count-after-requires c κs =
     let s = c .before .before .before .before .before .before in
-    (s .pre .0, record { down = s .pre .1; across = omega (arith, s .pre .2, c .before .before .loop .inv .long) })
+    (s .pre .0, record { rowwise = s .pre .1; colwise = omega (arith, s .pre .2, c .before .before .loop .inv .long) })
 
 mul-part : tie.Need-mul-part Inv-loop μ-loop
 mul-part c = search needs

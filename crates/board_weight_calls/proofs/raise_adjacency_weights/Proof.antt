@@ -3,7 +3,7 @@ use mathlib.Core.Path.{_≡_, _∙_, ap}
 use Rattle.base.specs.Refusal.{refusal}
 use Rattle.base.proofs.Chain.{chain}
 use Rattle.rules.proofs.Answered.{answers, done}
-use Rattle.rules.specs.Grid.{flat, numberOf}
+use Rattle.rules.specs.Grid.{flat, entryOf}
 use Rattle.rules.specs.Board.{raised, weightChecks}
 use Rattle.rules.specs.declared.Cell.{Cell}
 use Rattle.board_near.proofs.Placing.{placing, nearby}
@@ -24,8 +24,8 @@ returns c = search (chain, answers) depth 20 fits 5000
 near-spans-requires : tie.Need-near-spans-requires
 near-spans-requires c κs = search needs
 
-enum-known-down : tie.Need-enum-known-down
-enum-known-down c = search needs
+enum-known-rowspan : tie.Need-enum-known-rowspan
+enum-known-rowspan c = search needs
 
 enum-told : tie.Need-enum-told
 enum-told c = search needs
@@ -39,7 +39,7 @@ returns-2 c = search (chain, answers, placing) depth 20 fits 5000
 -- all checks have passed
 made : (c : tie.After-known-told)
     → let a = c .before .before .before .before .before .before .before .before .args in
-    0 ≡ refusal (weightChecks (a .weights .now) (a .rows) (a .cols) (a .position) (a .offset))
+    0 ≡ refusal (weightChecks (a .weights .now) (a .rows) (a .cols) (a .place) (a .offset))
 made c = search (chain, placing) depth 20 fits 5000
 
 cell-of-requires : tie.Need-cell-of-requires
@@ -49,7 +49,7 @@ raise-near-requires : tie.Need-raise-near-requires
 raise-near-requires c κs =
     let v = weighed _ _ _ _ _ (made (c .before .before)) in
     rw (c .before .cell-of .ensures)
-    (v .on, nearby _ _ _ _ _ _ _ (c .before .before .before .down .given .1) (c .before .before .before .before .before .near-spans .ensures), v .light)
+    (v .on, nearby _ _ _ _ _ _ _ (c .before .before .before .rowspan .given .1) (c .before .before .before .before .before .near-spans .ensures), v .light)
 
 same-length-3 : tie.Need-same-length-3
 same-length-3 c = search needs
@@ -59,7 +59,7 @@ returns-3 c =
     let a = c .before .before .before .before .before .before .before .before .before .before .before .before .before .args in
     done _ _ _ (made (c .before .before .before .before .before))
     (c .before .before .raise-near .ensures
-    ∙ ap (λ (x : Cell). raised (flat (a .rows) (a .cols)) (numberOf (a .cols) x) (a .weights .now)) (c .before .before .before .before .cell-of .ensures))
+    ∙ ap (λ (x : Cell). raised (flat (a .rows) (a .cols)) (entryOf (a .cols) x) (a .weights .now)) (c .before .before .before .before .cell-of .ensures))
 
 pub raise-adjacency-weights-spec : {M : Type 1} → statement M
 raise-adjacency-weights-spec =
@@ -69,7 +69,7 @@ raise-adjacency-weights-spec =
     same-length
     returns
     near-spans-requires
-    enum-known-down
+    enum-known-rowspan
     enum-told
     same-length-2
     returns-2

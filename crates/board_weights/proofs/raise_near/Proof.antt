@@ -16,14 +16,14 @@ use Rattle.board_weights.proofs.raise_near.Statement.{statement}
 use Rattle.board_weights.proofs.raise_near.Tie as tie
 
 abbrev Inv-loop : tie.InvT-loop
-Inv-loop weights₀ rows cols cell down across row₀ weights row = RowsDone 0 (raisedBy cell) cols (down .0) (down .1) (across .0) (across .1) weights₀ weights row
+Inv-loop weights₀ rows cols cell rowspan colspan row₀ weights row = RowsDone 0 (raisedBy cell) cols (rowspan .0) (rowspan .1) (colspan .0) (colspan .1) weights₀ weights row
 
 abbrev μ-loop : tie.MeasureT-loop
-μ-loop weights₀ rows cols cell down across row₀ weights row = down .1 - row
+μ-loop weights₀ rows cols cell rowspan colspan row₀ weights row = rowspan .1 - row
 
 -- the spans are a region of the plane
 fits : (s : tie.Start Inv-loop μ-loop)
-    → let a = s .args in RegionFits (length (a .weights .now)) (a .cols) (a .down .0) (a .down .1) (a .across .0) (a .across .1)
+    → let a = s .args in RegionFits (length (a .weights .now)) (a .cols) (a .rowspan .0) (a .rowspan .1) (a .colspan .0) (a .colspan .1)
 fits s = near-region _ _ _ _ _ (s .pre .1) _ (s .pre .0)
 
 -- the row is in the plane, which is small
@@ -69,8 +69,8 @@ raise-row-requires c κs =
     let l = t .before .before .loop in
     let s = t .before .before .before .before in
     let a = s .args in
-    let from = l .row * a .cols + a .across .0 in
-    let to = l .row * a .cols + a .across .1 in
+    let from = l .row * a .cols + a .colspan .0 in
+    let to = l .row * a .cols + a .colspan .1 in
     let held : to ≤ length (l .weights) = omega (arith, room t, fits s, l .inv .long) in
     let long : length (take (to - from) (drop from (l .weights))) ≡ to - from = length-part (l .weights) from to held in (
       omega (arith, long, fits s, s .pre .0),
@@ -92,7 +92,7 @@ loop-again c =
     let l = t .before .before .loop in
     let s = t .before .before .before .before in
     let a = s .args in
-    region-row 0 (raisedBy (a .cell)) _ _ _ _ _ _ (fits s) (l .inv) (l .row * a .cols + a .across .0) (l .row * a .cols + a .across .1) refl refl (t .if1 .taken)
+    region-row 0 (raisedBy (a .cell)) _ _ _ _ _ _ (fits s) (l .inv) (l .row * a .cols + a .colspan .0) (l .row * a .cols + a .colspan .1) refl refl (t .if1 .taken)
     (k .raise-row .ensures)
 
 same-length : tie.Need-same-length Inv-loop μ-loop

@@ -1,5 +1,5 @@
 -- `check_sizes::tile_number_fits` meets its contract: it is its callee's. Assumes nothing.
-use Rattle.rules.specs.Tests.{tileNumber}
+use Rattle.rules.specs.Tests.{tileNumberFits}
 use borrow.Author.Needs.{needs}
 use Rattle.check_sizes.proofs.tile_number_fits.Statement.{statement}
 use Rattle.check_sizes.proofs.tile_number_fits.Tie as tie
@@ -8,7 +8,7 @@ within-bounds-requires : tie.Need-within-bounds-requires
 within-bounds-requires c κs = search needs
 
 returns : tie.Need-returns
-unfolding tileNumber
+unfolding tileNumberFits
 returns c = c .within-bounds .ensures
 
 pub tile-number-fits-spec : {M : Type 1} → statement M

@@ -26,7 +26,7 @@ only-colour-at-requires : tie.Need-only-colour-at-requires
 only-colour-at-requires c κs =
     let h = passes _ (c .before .before .on-board .ensures) (c .before .if2 .left) in
     let e = c .cell-of .ensures in
-    (c .before .before .before .before .before .before .before .pre, record { down = rw e (row-below _ _ _ _ h); across = rw e (col-below _ _ _ _ h) })
+    (c .before .before .before .before .before .before .before .pre, record { rowwise = rw e (row-below _ _ _ _ h); colwise = rw e (col-below _ _ _ _ h) })
 
 returns-3 : tie.Need-returns-3
 returns-3 c =

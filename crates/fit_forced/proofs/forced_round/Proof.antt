@@ -11,11 +11,11 @@ use Rattle.fit_forced.proofs.forced_round.Statement.{statement}
 use Rattle.fit_forced.proofs.forced_round.Tie as tie
 
 abbrev Inv-loop : tie.InvT-loop
-Inv-loop pieces rows cols tiles count position offset bounds found₀ i₀ found i =
-    (i ≤ addedRoom) × (found ≡ positionsOf (foundBefore flat pieces rows cols tiles count position offset bounds i))
+Inv-loop pieces rows cols tiles count place offset bounds found₀ i₀ found i =
+    (i ≤ addedRoom) × (found ≡ positionsOf (foundBefore flat pieces rows cols tiles count place offset bounds i))
 
 abbrev μ-loop : tie.MeasureT-loop
-μ-loop pieces rows cols tiles count position offset bounds found₀ i₀ found i = addedRoom - i
+μ-loop pieces rows cols tiles count place offset bounds found₀ i₀ found i = addedRoom - i
 
 no-positions-requires : tie.Need-no-positions-requires Inv-loop μ-loop
 no-positions-requires c κs = search needs

@@ -22,19 +22,19 @@ both p q = rw (p, q)
 
 beside-requires : tie.Need-beside-requires
 beside-requires c κs =
-    let w = c .before .args .w in
+    let w = c .before .args .place in
     (rw (same {z = w .0} (c .struct-told .given .0 .1)) (both-on w (c .before .pre .0) .0), omega (arith, c .before .pre .1))
 
 beside-requires-2 : tie.Need-beside-requires-2
 beside-requires-2 c κs =
     let d = c .before .before .before in
-    let w = d .args .w in
+    let w = d .args .place in
     (rw (same {z = w .1} (c .struct-told2 .given .1 .0 .1)) (both-on w (d .pre .0) .1), omega (arith, d .pre .1))
 
 returns : tie.Need-returns
 unfolding neighbour
 returns c =
-    let w = c .before .before .before .before .args .w in
+    let w = c .before .before .before .before .args .place in
     let d = c .before .before in
     both
     (same {z = d .beside .result} (d .beside .ok) ∙ rw (same {z = w .0} (d .before .struct-told .given .0 .1)) at (d .beside .ensures))

@@ -9,7 +9,7 @@ use Rattle.fit_pattern.proofs.colour_at.Tie as tie
 
 -- past both tests the cell is on the grid
 there : (c : tie.Else2) → let a = c .before .before .args in Inside (a .pieces .now) (a .cols) (cellAt (a .r) (a .c))
-there c = inside (c .before .before .pre) (record { down = c .before .if1 .left; across = c .if2 .left })
+there c = inside (c .before .before .pre) (record { rowwise = c .before .if1 .left; colwise = c .if2 .left })
 
 returns : tie.Need-returns
 returns c = bare-past (c .before .args .pieces .now) _ _ (c .before .pre .plane) (off-rows _ _ _ (c .if1 .taken))

@@ -2,7 +2,7 @@
 use Prim.Native.Nat.{_-_, _≤_}
 use mathlib.Core.Path.{_≡_, _∙_}
 use Rattle.base.proofs.Swept.{swept, swept-none, swept-turn, swept-all}
-use Rattle.fit_pattern.specs.Words.{shownBy, maskOf}
+use Rattle.fit_pattern.specs.Packed.{shownBy, maskOf}
 use borrow.Author.Needs.{needs}
 use Rattle.fit_pattern.proofs.masks_for.Statement.{statement}
 use Rattle.fit_pattern.proofs.masks_for.Tie as tie

@@ -1,7 +1,7 @@
--- `fit_pattern::pair` meets its contract: two bytes, the higher times 256, fit 64 bits and make a word of two, by `pair-is`. Assumes nothing.
+-- `fit_pattern::pair` meets its contract: two bytes, the higher times 256, fit 64 bits and make one number of two cells, by `pair-is`. Assumes nothing.
 use Prim.Native.Nat.{_+_}
 use native.Mathlib.Omega.{arith}
-use Rattle.fit_pattern.proofs.Words.{pair-is}
+use Rattle.fit_pattern.proofs.Packed.{pair-is}
 use borrow.Author.Needs.{needs}
 use Rattle.fit_pattern.proofs.pair.Statement.{statement}
 use Rattle.fit_pattern.proofs.pair.Tie as tie

@@ -3,8 +3,8 @@ use Prim.Native.Nat.{ℕ, _*_, _<_}
 use mathlib.Core.Path.{_≡_, sym, _∙_}
 use native.Mathlib.Omega.{arith}
 use lib.ListN.{getD}
-use Rattle.fit_pattern.specs.Words.{shownBy, cellsFrom, word}
-use Rattle.fit_pattern.proofs.Words.{from-first, left-there, ninth-decides}
+use Rattle.fit_pattern.specs.Packed.{shownBy, cellsFrom, packed}
+use Rattle.fit_pattern.proofs.Packed.{from-first, left-there, ninth-decides}
 use borrow.Author.Needs.{needs}
 use Rattle.fit_pattern.proofs.tile_fits.Statement.{statement}
 use Rattle.fit_pattern.proofs.tile_fits.Tie as tie
@@ -26,9 +26,9 @@ returns c =
     let f = c .before .before .before in
     let d = f .before .before in
     let a = d .before .before .args in
-    let p : d .eight .result ≡ word 8 (cellsFrom (a .tiles .now) (a .n * 9)) = d .eight .ensures in
-    let q : f .eight2 .result ≡ word 8 (shownBy (a .mask .now)) = f .eight2 .ensures ∙ from-first 8 (a .mask .now) in
-    let r : c .before .eight3 .result ≡ word 8 (shownBy (a .window .now)) = c .before .eight3 .ensures ∙ from-first 8 (a .window .now) in
+    let p : d .eight .result ≡ packed 8 (cellsFrom (a .tiles .now) (a .n * 9)) = d .eight .ensures in
+    let q : f .eight2 .result ≡ packed 8 (shownBy (a .mask .now)) = f .eight2 .ensures ∙ from-first 8 (a .mask .now) in
+    let r : c .before .eight3 .result ≡ packed 8 (shownBy (a .window .now)) = c .before .eight3 .ensures ∙ from-first 8 (a .window .now) in
     let byte : (i : ℕ) → getD (a .tiles .now) i 0 < 256 = λ i. omega (arith, d .before .shared-slice-known .given i) in
     left-there (a .tiles .now) (a .window .now) (a .mask .now) (a .n) (d .before .before .pre .1) byte (rw (sym p, sym q, sym r) (c .if1 .taken))
 
@@ -50,9 +50,9 @@ returns-2 c =
     let f = e .before .before .before in
     let d = f .before .before in
     let a = d .before .before .args in
-    let p : d .eight .result ≡ word 8 (cellsFrom (a .tiles .now) (a .n * 9)) = d .eight .ensures in
-    let q : f .eight2 .result ≡ word 8 (shownBy (a .mask .now)) = f .eight2 .ensures ∙ from-first 8 (a .mask .now) in
-    let r : e .before .eight3 .result ≡ word 8 (shownBy (a .window .now)) = e .before .eight3 .ensures ∙ from-first 8 (a .window .now) in
+    let p : d .eight .result ≡ packed 8 (cellsFrom (a .tiles .now) (a .n * 9)) = d .eight .ensures in
+    let q : f .eight2 .result ≡ packed 8 (shownBy (a .mask .now)) = f .eight2 .ensures ∙ from-first 8 (a .mask .now) in
+    let r : e .before .eight3 .result ≡ packed 8 (shownBy (a .window .now)) = e .before .eight3 .ensures ∙ from-first 8 (a .window .now) in
     let byte : (i : ℕ) → getD (a .tiles .now) i 0 < 256 = λ i. omega (arith, d .before .shared-slice-known .given i) in
     ninth-decides (a .tiles .now) (a .window .now) (a .mask .now) (a .n) (d .before .before .pre .1) byte (rw (sym p, sym q, sym r) (e .if1 .left))
 

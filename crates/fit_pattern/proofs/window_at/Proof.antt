@@ -2,7 +2,7 @@
 use Prim.Native.Nat.{_-_, _≤_}
 use mathlib.Core.Path.{_≡_, _∙_}
 use Rattle.base.proofs.Swept.{swept, swept-none, swept-turn, swept-all}
-use Rattle.rules.specs.Grid.{cellAt, numberOf, flat}
+use Rattle.rules.specs.Grid.{cellAt, entryOf, flat}
 use Rattle.rules.specs.Fit.{pattern}
 use Rattle.rules.specs.declared.Cell.{Cell}
 use Rattle.fit_pattern.proofs.Flat.{pattern-is}
@@ -12,7 +12,7 @@ use Rattle.fit_pattern.proofs.window_at.Tie as tie
 
 abbrev Inv-loop : tie.InvT-loop
 Inv-loop pieces rows cols row col window₀ i₀ window i =
-    (i ≤ 9) × (window ≡ swept 0 i (pattern (flat rows cols) pieces (numberOf cols (cellAt row col))) window₀)
+    (i ≤ 9) × (window ≡ swept 0 i (pattern (flat rows cols) pieces (entryOf cols (cellAt row col))) window₀)
 
 abbrev μ-loop : tie.MeasureT-loop
 μ-loop pieces rows cols row col window₀ i₀ window i = 9 - i
@@ -44,7 +44,7 @@ loop-again c =
     let l = c .before .before .loop in
     let cell : Cell = cellAt (a .row) (a .col) in (
       search needs,
-      swept-turn 0 (l .window) _ (l .i) (pattern (flat (a .rows) (a .cols)) (a .pieces .now) (numberOf (a .cols) cell)) (c .colour-at .result)
+      swept-turn 0 (l .window) _ (l .i) (pattern (flat (a .rows) (a .cols)) (a .pieces .now) (entryOf (a .cols) cell)) (c .colour-at .result)
           (search needs) (l .inv .1) (c .colour-at .ensures ∙ pattern-is (a .rows) (a .cols) cell (l .i) (search needs) (a .pieces .now)),
     )
 

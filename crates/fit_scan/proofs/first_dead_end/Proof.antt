@@ -6,7 +6,7 @@ use mathlib.Core.List.{List}
 use native.Mathlib.Omega.{arith}
 use Rattle.base.specs.Counting.{some}
 use Rattle.base.proofs.Numbers.{cell-lt}
-use Rattle.rules.specs.Grid.{cellAt, numberOf, flat}
+use Rattle.rules.specs.Grid.{cellAt, entryOf, flat}
 use Rattle.rules.specs.Forced.{deadAt}
 use Rattle.rules.specs.declared.DeadEnd.{DeadEnd}
 use Rattle.rules.specs.declared.DeadEnd.the-variants.{Nowhere}
@@ -28,7 +28,7 @@ record Inner (test : ℕ → Bool) (rows cols : ℕ) (found : DeadEnd) (row col 
   nowhere : found ≡ Nowhere
   row-in : row < rows
   col-in : col ≤ cols
-  passed : some (numberOf cols (cellAt row col)) test ≡ false
+  passed : some (entryOf cols (cellAt row col)) test ≡ false
 
 abbrev Inv-loop : tie.InvT-loop
 Inv-loop pieces weights rows cols tiles count found₀ row col₀ found col = Inner (dead pieces weights rows cols tiles count) rows cols found row col
@@ -52,7 +52,7 @@ loop-holds c =
 
 is-dead-end-requires : tie.Need-is-dead-end-requires Inv-loop μ-loop Inv-scan μ-scan
 is-dead-end-requires c κs =
-    (c .before .before .before .before .before .before .before .pre, record { down = c .before .loop .inv .row-in; across = c .loop-test .taken })
+    (c .before .before .before .before .before .before .before .pre, record { rowwise = c .before .loop .inv .row-in; colwise = c .loop-test .taken })
 
 add-col : tie.Need-add-col Inv-loop μ-loop Inv-scan μ-scan
 add-col c = search needs

@@ -7,7 +7,7 @@ use Rattle.base.specs.Counting.{tally}
 use Rattle.base.proofs.Counted.{tally-le}
 use Rattle.rules.specs.Tests.{tilesIn}
 use Rattle.rules.specs.Fit.{fitsTile, fitCount}
-use Rattle.fit_pattern.specs.Words.{shownBy}
+use Rattle.fit_pattern.specs.Packed.{shownBy}
 use Rattle.base.proofs.Counted.{tally-turn, tally-done}
 use Rattle.rules.proofs.Fitting.{bare-fits}
 use borrow.Author.Needs.{needs}

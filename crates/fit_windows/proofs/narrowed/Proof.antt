@@ -11,12 +11,12 @@ use Rattle.fit_windows.proofs.narrowed.Tie as tie
 returns : tie.Need-returns
 returns c =
     let d = c .before .before .before in
-    skip-left _ _ _ _ (skipped-above _ _ (cellAt (d .args .row) (d .args .col)) _ (d .pre .1 .1 .0 .across) (c .if1 .taken))
+    skip-left _ _ _ _ (skipped-above _ _ (cellAt (d .args .row) (d .args .col)) _ (d .pre .1 .1 .0 .colwise) (c .if1 .taken))
 
 returns-2 : tie.Need-returns-2
 returns-2 c =
     let d = c .before .before .before .before in
-    skip-left _ _ _ _ (skipped-left _ _ (cellAt (d .args .row) (d .args .col)) _ (d .pre .1 .1 .0 .across) (c .if2 .taken))
+    skip-left _ _ _ _ (skipped-left _ _ (cellAt (d .args .row) (d .args .col)) _ (d .pre .1 .1 .0 .colwise) (c .if2 .taken))
 
 sub-window-at : tie.Need-sub-window-at
 sub-window-at c = search needs
@@ -41,7 +41,7 @@ returns-3 c =
     let e = c .before .before .before .before .before .before in
     let d = e .before .before .before .before in
     let cell = cellAt (d .args .row) (d .args .col) in
-    let on = d .pre .1 .1 .0 .across in
+    let on = d .pre .1 .1 .0 .colwise in
     kept-left _ _ _ _ _ _ (is-kept _ _ cell _ on (e .before .if1 .left) (e .if2 .left)) (start-is _ _ cell _ on)
     (c .before .before .before .before .before .window-at .ensures) (c .window-colours .ensures)
 

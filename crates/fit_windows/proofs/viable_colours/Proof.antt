@@ -2,7 +2,7 @@
 use Prim.Native.Nat.{_-_, _≤_}
 use mathlib.Core.Path.{_≡_, _∙_}
 use native.Mathlib.Omega.{arith}
-use Rattle.rules.specs.Grid.{cellAt, numberOf, flat}
+use Rattle.rules.specs.Grid.{cellAt, entryOf, flat}
 use Rattle.rules.specs.Sets.{bitsOf}
 use Rattle.rules.specs.Fit.{leftAfter}
 use Rattle.fit_windows.proofs.Lists.{few-lt, order-lt, left-first, left-turn, left-none}
@@ -13,7 +13,7 @@ use Rattle.fit_windows.proofs.viable_colours.Tie as tie
 
 abbrev Inv-loop : tie.InvT-loop
 Inv-loop pieces rows cols tiles count row col left₀ i₀ left i =
-    (i ≤ 9) × (left ≡ bitsOf count (leftAfter (flat rows cols) tiles pieces (numberOf cols (cellAt row col)) i))
+    (i ≤ 9) × (left ≡ bitsOf count (leftAfter (flat rows cols) tiles pieces (entryOf cols (cellAt row col)) i))
 
 abbrev μ-loop : tie.MeasureT-loop
 μ-loop pieces rows cols tiles count row col left₀ i₀ left i = 9 - i

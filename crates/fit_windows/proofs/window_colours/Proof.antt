@@ -1,7 +1,7 @@
 -- `fit_windows::window_colours` meets its contract. The loop's invariant: missing are the colours that no tile passed serves. Assumes nothing.
 use Prim.Native.Nat.{_-_, _≤_}
 use Rattle.rules.specs.Tests.{tilesIn}
-use Rattle.fit_pattern.specs.Words.{shownBy}
+use Rattle.fit_pattern.specs.Packed.{shownBy}
 use Rattle.fit_windows.specs.Kept.{Keeps}
 use Rattle.fit_windows.proofs.Kept.{keeps-le}
 use Rattle.fit_windows.proofs.Lists.{unserved, missing-first, missing-turn, missing-end, missing-none}

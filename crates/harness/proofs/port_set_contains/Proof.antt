@@ -8,14 +8,14 @@ use Rattle.harness.proofs.port_set_contains.Tie as tie
 contains-requires : tie.Need-contains-requires
 contains-requires c κs = search needs
 
-told-requires : tie.Need-told-requires
-told-requires c κs = search needs
+judged-requires : tie.Need-judged-requires
+judged-requires c κs = search needs
 
 same-length : tie.Need-same-length
 same-length c = search needs
 
 returns : tie.Need-returns
-returns c = passed-on verdictNumber verdictLeft (c .before .before .before .before .contains .ensures) (c .before .before .told .ensures)
+returns c = passed-on verdictNumber verdictLeft (c .before .before .before .before .contains .ensures) (c .before .before .judged .ensures)
 
 pub port-set-contains-spec : {M : Type 1} → statement M
-port-set-contains-spec = tie.close (tie.spec contains-requires told-requires same-length returns)
+port-set-contains-spec = tie.close (tie.spec contains-requires judged-requires same-length returns)

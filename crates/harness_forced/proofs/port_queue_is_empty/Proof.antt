@@ -13,8 +13,8 @@ queue-from-requires c κs = search needs
 is-empty-requires : tie.Need-is-empty-requires
 is-empty-requires c κs = search needs
 
-told-requires : tie.Need-told-requires
-told-requires c κs = search needs
+judged-requires : tie.Need-judged-requires
+judged-requires c κs = search needs
 
 same-length : tie.Need-same-length
 same-length c = search needs
@@ -23,8 +23,8 @@ returns : tie.Need-returns
 returns c =
     passed-on verdictNumber verdictLeft
     (c .before .before .before .before .is-empty .ensures ∙ ap queueEmpty (c .before .before .before .before .before .queue-from .ensures))
-    (c .before .before .told .ensures)
+    (c .before .before .judged .ensures)
 
 pub port-queue-is-empty-spec : {M : Type 1} → statement M
 port-queue-is-empty-spec =
-    tie.close (tie.spec queue-from-requires is-empty-requires told-requires same-length returns)
+    tie.close (tie.spec queue-from-requires is-empty-requires judged-requires same-length returns)

@@ -18,8 +18,8 @@ world-at-requires c κs = search needs
 contains-requires : tie.Need-contains-requires
 contains-requires c κs = search needs
 
-told-requires : tie.Need-told-requires
-told-requires c κs = search needs
+judged-requires : tie.Need-judged-requires
+judged-requires c κs = search needs
 
 same-length : tie.Need-same-length
 same-length c = search needs
@@ -32,7 +32,7 @@ returns c =
     ∙ ap₂ boxContains
     (c .before .before .before .before .before .before .box-at .ensures ∙ box-is (e .fits .minrow) (e .fits .mincol) (e .fits .maxrow) (e .fits .maxcol))
     (c .before .before .before .before .before .world-at .ensures ∙ world-is (e .fits .row) (e .fits .col)))
-    (c .before .before .told .ensures)
+    (c .before .before .judged .ensures)
 
 pub port-contains-spec : {M : Type 1} → statement M
 port-contains-spec =
@@ -41,6 +41,6 @@ port-contains-spec =
     box-at-requires
     world-at-requires
     contains-requires
-    told-requires
+    judged-requires
     same-length
     returns)

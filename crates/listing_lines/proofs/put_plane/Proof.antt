@@ -3,7 +3,7 @@ use mathlib.Core.Path.{_≡_, _∙_}
 use native.Mathlib.Omega.{arith}
 use Prim.Native.Nat.{_-_, _≤_}
 use lib.ListN.{length}
-use Rattle.listing_lines.specs.Pages.{Writes}
+use Rattle.listing_lines.specs.Pages.{Prints}
 use Rattle.listing_lines.specs.Lines.{joined, cellText, planeText}
 use Rattle.listing_lines.proofs.Texts.{joined-none, joined-turn, joined-all}
 use borrow.Author.Needs.{needs}
@@ -11,7 +11,7 @@ use Rattle.listing_lines.proofs.put_plane.Statement.{statement}
 use Rattle.listing_lines.proofs.put_plane.Tie as tie
 
 abbrev Inv-loop : tie.InvT-loop
-Inv-loop out₀ at least plane cols p₀ k₀ out p k = (k ≤ length plane) × (length out ≡ length out₀) × Writes (joined k (cellText least plane cols)) at out₀ p out
+Inv-loop out₀ at least plane cols p₀ k₀ out p k = (k ≤ length plane) × (length out ≡ length out₀) × Prints (joined k (cellText least plane cols)) at out₀ p out
 
 abbrev μ-loop : tie.MeasureT-loop
 μ-loop out₀ at least plane cols p₀ k₀ out p k = length plane - k

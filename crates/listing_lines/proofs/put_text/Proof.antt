@@ -3,7 +3,7 @@ use mathlib.Core.Path.{_≡_, _∙_}
 use native.Mathlib.Omega.{arith}
 use Prim.Native.Nat.{_-_, _≤_}
 use lib.ListN.{length, take}
-use Rattle.listing_lines.specs.Pages.{Writes}
+use Rattle.listing_lines.specs.Pages.{Prints}
 use Rattle.listing_lines.proofs.Written.{writes-none}
 use Rattle.listing_lines.proofs.Texts.{text-turn, text-all}
 use borrow.Author.Needs.{needs}
@@ -11,7 +11,7 @@ use Rattle.listing_lines.proofs.put_text.Statement.{statement}
 use Rattle.listing_lines.proofs.put_text.Tie as tie
 
 abbrev Inv-loop : tie.InvT-loop
-Inv-loop out₀ at text p₀ k₀ out p k = (k ≤ length text) × (length out ≡ length out₀) × Writes (take k text) at out₀ p out
+Inv-loop out₀ at text p₀ k₀ out p k = (k ≤ length text) × (length out ≡ length out₀) × Prints (take k text) at out₀ p out
 
 abbrev μ-loop : tie.MeasureT-loop
 μ-loop out₀ at text p₀ k₀ out p k = length text - k

@@ -18,13 +18,13 @@ in-range-requires-2 c κs = search needs
 -- what the test of the rows answered
 row-test : (c : tie.After-in-range)
     → let a = c .before .before .before .before .before .before .args in
-    c .in-range .result ≡ withinZ (a .bounds .min .0) (a .bounds .max .0) (a .position .0)
+    c .in-range .result ≡ withinZ (a .bounds .min .0) (a .bounds .max .0) (a .place .0)
 row-test c =
     let a = c .before .before .before .before .before .before .args in
     rw (
       same {z = a .bounds .min .0} (c .before .before .before .struct-told .given .0 .1),
       same {z = a .bounds .max .0} (c .before .before .struct-told2 .given .0 .1),
-      same {z = a .position .0} (c .before .struct-told3 .given .0 .1),
+      same {z = a .place .0} (c .before .struct-told3 .given .0 .1),
     ) at
     (c .in-range .ensures)
 
@@ -36,15 +36,15 @@ returns c =
     (rw (
       same {z = a .bounds .min .1} (c .before .before .before .struct-told4 .given .1 .0 .1),
       same {z = a .bounds .max .1} (c .before .before .struct-told5 .given .1 .0 .1),
-      same {z = a .position .1} (c .before .struct-told6 .given .1 .0 .1),
+      same {z = a .place .1} (c .before .struct-told6 .given .1 .0 .1),
     ) at
     (c .in-range2 .ensures))
-    ∙ box-sides (a .bounds) (a .position)
+    ∙ box-sides (a .bounds) (a .place)
 
 returns-2 : tie.Need-returns-2
 returns-2 c =
     let a = c .before .before .before .before .before .before .before .args in
-    and-stop _ _ (sym (row-test (c .before)) ∙ c .if1 .left) ∙ box-sides (a .bounds) (a .position)
+    and-stop _ _ (sym (row-test (c .before)) ∙ c .if1 .left) ∙ box-sides (a .bounds) (a .place)
 
 pub in-box-spec : {M : Type 1} → statement M
 in-box-spec = tie.close (tie.spec in-range-requires in-range-requires-2 returns returns-2)

@@ -20,7 +20,7 @@ returns c = search (chain, answers) depth 20 fits 5000
 
 accepted : (c : tie.Else1)
     → let a = c .before .before .args in
-    Reached (a .rows) (a .cols) (a .offset) (a .coordinates) (a .radius)
+    Reached (a .rows) (a .cols) (a .offset) (a .place) (a .radius)
 accepted c = reached _ _ _ _ _ (sym (c .before .extension-refused .ensures) ∙ c .if1 .left)
 
 pads-of-requires : tie.Need-pads-of-requires

@@ -27,7 +27,7 @@ returns-2 c = search (chain, answers) depth 20 fits 5000
 
 past : (c : tie.Else2)
     → let a = c .before .before .before .before .args in
-    Reached (a .rows) (a .cols) (a .offset) (a .coordinates) (a .radius)
+    Reached (a .rows) (a .cols) (a .offset) (a .place) (a .radius)
 past c = let d = c .before .before in reached _ _ _ _ _ (sym (d .before .extension-refused .ensures) ∙ d .if1 .left)
 
 pads-of-requires : tie.Need-pads-of-requires

@@ -34,10 +34,10 @@ returns-2 c =
     let a = s .before .before .before .before .before .args in
     let span : ℤ → ℤ → Span = λ x y. spanOf (x +ℤ y) (a .radius) in
     let rows = s .span-along .ensures
-    ∙ same-two span (a .coordinates .0) (a .offset .0) (s .before .before .struct-told .given .0 .1) (s .before .struct-told2 .given .0 .1)
+    ∙ same-two span (a .place .0) (a .offset .0) (s .before .before .struct-told .given .0 .1) (s .before .struct-told2 .given .0 .1)
     in
     let cols = c .span-along2 .ensures
-    ∙ same-two span (a .coordinates .1) (a .offset .1) (c .before .before .struct-told3 .given .1 .0 .1) (c .before .struct-told4 .given .1 .0 .1)
+    ∙ same-two span (a .place .1) (a .offset .1) (c .before .before .struct-told3 .given .1 .0 .1) (c .before .struct-told4 .given .1 .0 .1)
     in
     search (chain, answers) depth 20 fits 5000
 

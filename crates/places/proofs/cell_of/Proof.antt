@@ -26,8 +26,8 @@ returns c =
     let d = c .before .before .before in
     let a = d .before .before .before .args in
     both
-    (d .index-along .ensures ∙ same-two (λ x y. clip (x +ℤ y)) (a .w .0) (a .o .0) (d .before .before .struct-told .given .0 .1) (d .before .struct-told2 .given .0 .1))
-    (c .index-along2 .ensures ∙ same-two (λ x y. clip (x +ℤ y)) (a .w .1) (a .o .1) (c .before .before .struct-told3 .given .1 .0 .1) (c .before .struct-told4 .given .1 .0 .1))
+    (d .index-along .ensures ∙ same-two (λ x y. clip (x +ℤ y)) (a .place .0) (a .offset .0) (d .before .before .struct-told .given .0 .1) (d .before .struct-told2 .given .0 .1))
+    (c .index-along2 .ensures ∙ same-two (λ x y. clip (x +ℤ y)) (a .place .1) (a .offset .1) (c .before .before .struct-told3 .given .1 .0 .1) (c .before .struct-told4 .given .1 .0 .1))
 
 pub cell-of-spec : {M : Type 1} → statement M
 cell-of-spec = tie.close (tie.spec index-along-requires index-along-requires-2 returns)

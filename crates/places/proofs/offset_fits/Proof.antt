@@ -12,7 +12,7 @@ both-in-range-requires c κs = search needs
 returns : tie.Need-returns
 unfolding offsetFits
 returns c =
-    let z = c .before .before .before .args .o in
+    let z = c .before .before .before .args .offset in
     rw (same {z = z .0} (c .before .before .struct-told .given .0 .1), same {z = z .1} (c .before .struct-told2 .given .1 .0 .1)) at
     (c .both-in-range .ensures)
 

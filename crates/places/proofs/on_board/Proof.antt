@@ -22,10 +22,10 @@ returns c =
     let d = c .before .before .before .before in
     let a = d .before .before .before .args in
     and-go _ _
-    (sym (d .on-side .ensures ∙ same-two (λ x y. indexBelow (a .rows) (x +ℤ y)) (a .w .0) (a .o .0) (d .before .before .struct-told .given .0 .1) (d .before .struct-told2 .given .0 .1))
+    (sym (d .on-side .ensures ∙ same-two (λ x y. indexBelow (a .rows) (x +ℤ y)) (a .place .0) (a .offset .0) (d .before .before .struct-told .given .0 .1) (d .before .struct-told2 .given .0 .1))
     ∙ c .before .before .before .if1 .taken)
     (c .on-side2 .ensures
-    ∙ same-two (λ x y. indexBelow (a .cols) (x +ℤ y)) (a .w .1) (a .o .1) (c .before .before .struct-told3 .given .1 .0 .1) (c .before .struct-told4 .given .1 .0 .1))
+    ∙ same-two (λ x y. indexBelow (a .cols) (x +ℤ y)) (a .place .1) (a .offset .1) (c .before .before .struct-told3 .given .1 .0 .1) (c .before .struct-told4 .given .1 .0 .1))
 
 returns-2 : tie.Need-returns-2
 unfolding onBoard
@@ -33,7 +33,7 @@ returns-2 c =
     let d = c .before in
     let a = d .before .before .before .args in
     and-stop _ _
-    (sym (d .on-side .ensures ∙ same-two (λ x y. indexBelow (a .rows) (x +ℤ y)) (a .w .0) (a .o .0) (d .before .before .struct-told .given .0 .1) (d .before .struct-told2 .given .0 .1))
+    (sym (d .on-side .ensures ∙ same-two (λ x y. indexBelow (a .rows) (x +ℤ y)) (a .place .0) (a .offset .0) (d .before .before .struct-told .given .0 .1) (d .before .struct-told2 .given .0 .1))
     ∙ c .if1 .left)
 
 pub on-board-spec : {M : Type 1} → statement M

@@ -12,7 +12,7 @@ both-in-range-requires c κs = search needs
 returns : tie.Need-returns
 unfolding onWall
 returns c =
-    let z = c .before .before .before .args .w in
+    let z = c .before .before .before .args .place in
     rw (same {z = z .0} (c .before .before .struct-told .given .0 .1), same {z = z .1} (c .before .struct-told2 .given .1 .0 .1)) at
     (c .both-in-range .ensures)
 

@@ -27,14 +27,14 @@ returns c = search (chain, answers) depth 20 fits 5000
 
 accepts : (c : tie.Else1)
     → let a = c .before .before .before .before .before .args in
-    StepPasses (a .probabilities .now) (a .rows) (a .cols) (a .count) (blockOf (a .brows) (a .bcols) (a .block .now)) (a .position) (a .offset) (a .radius)
+    StepPasses (a .probabilities .now) (a .rows) (a .cols) (a .count) (blockOf (a .brows) (a .bcols) (a .block .now)) (a .place) (a .offset) (a .radius)
 accepts c = step-passes _ _ _ _ _ _ _ _ (sym (c .before .step-refused .ensures) ∙ c .if1 .left)
 
 get-region-spans-requires : tie.Need-get-region-spans-requires
 get-region-spans-requires c κs = search needs
 
-enum-known-down : tie.Need-enum-known-down
-enum-known-down c = search needs
+enum-known-rowround : tie.Need-enum-known-rowround
+enum-known-rowround c = search needs
 
 enum-told : tie.Need-enum-told
 enum-told c = search needs
@@ -57,25 +57,25 @@ clipped-requires-2 c κs = search needs
 -- the clipped spans are those round the cell
 row-region : (c : tie.After-clipped2)
     → let a = c .before .before .before .before .before .before .before .before .before .before .before .args in
-    c .before .clipped .result ≡ clippedTo (a .rows) (spanRound (cellOf (a .position) (a .offset) .0) (a .radius))
+    c .before .clipped .result ≡ clippedTo (a .rows) (spanRound (cellOf (a .place) (a .offset) .0) (a .radius))
 row-region c =
     let d = c .before .before .before in
     let g = d .before .before in
     let a = g .before .before .before .before .before .before .args in
     let s = accepts (g .before) in
     c .before .clipped .ensures
-    ∙ ap (clippedTo (a .rows)) (rows-round _ _ _ _ (a .radius) (s .place) (s .radius) (g .get-region-spans .ensures) (d .down .given .1))
+    ∙ ap (clippedTo (a .rows)) (rows-round _ _ _ _ (a .radius) (s .place) (s .radius) (g .get-region-spans .ensures) (d .rowround .given .1))
 
 col-region : (c : tie.After-clipped2)
     → let a = c .before .before .before .before .before .before .before .before .before .before .before .args in
-    c .clipped2 .result ≡ clippedTo (a .cols) (spanRound (cellOf (a .position) (a .offset) .1) (a .radius))
+    c .clipped2 .result ≡ clippedTo (a .cols) (spanRound (cellOf (a .place) (a .offset) .1) (a .radius))
 col-region c =
     let d = c .before .before .before in
     let g = d .before .before in
     let a = g .before .before .before .before .before .before .args in
     let s = accepts (g .before) in
     c .clipped2 .ensures
-    ∙ ap (clippedTo (a .cols)) (cols-round _ _ _ _ (a .radius) (s .place) (s .radius) (g .get-region-spans .ensures) (d .down .given .1))
+    ∙ ap (clippedTo (a .cols)) (cols-round _ _ _ _ (a .radius) (s .place) (s .radius) (g .get-region-spans .ensures) (d .rowround .given .1))
 
 mul-change-colours : tie.Need-mul-change-colours
 mul-change-colours c = let s = accepts (c .before .before .before .before .before .before .before) in
@@ -107,7 +107,7 @@ returns-3 c = let k = c .before .before in
     (k .change-colours .ensures
     ∙ ap (λ (g : Region). coloursChanged (a .reverse) (a .rows * a .cols) (a .cols) g b (a .probabilities .now))
     (region-is _ _ _ _ (a .radius) (s .place) (row-region t) (col-region t))
-    ∙ whole-step (a .reverse) (a .rows) (a .cols) b (a .position) (a .offset) (a .radius) (a .probabilities .now))
+    ∙ whole-step (a .reverse) (a .rows) (a .cols) b (a .place) (a .offset) (a .radius) (a .probabilities .now))
 
 pub change-probabilities-spec : {M : Type 1} → statement M
 change-probabilities-spec =
@@ -117,7 +117,7 @@ change-probabilities-spec =
     same-length
     returns
     get-region-spans-requires
-    enum-known-down
+    enum-known-rowround
     enum-told
     same-length-2
     returns-2

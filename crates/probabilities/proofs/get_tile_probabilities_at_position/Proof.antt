@@ -22,7 +22,7 @@ accepts : (c : tie.Else1)
     NormalPasses (a .probabilities .now) (a .out .now) (a .rows) (a .cols) (a .count)
 accepts c =
     let a = c .before .before .before .before .before .args in
-    normal-passes _ _ _ _ _ (a .position) (a .offset) (sym (c .before .normalise-refused .ensures) ∙ c .if1 .left)
+    normal-passes _ _ _ _ _ (a .place) (a .offset) (sym (c .before .normalise-refused .ensures) ∙ c .if1 .left)
 
 take-place-requires : tie.Need-take-place-requires
 take-place-requires c κs = accepts (c .before) .fits

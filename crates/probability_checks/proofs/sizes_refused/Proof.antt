@@ -34,10 +34,10 @@ cells c = few-cells _ _ (passes _ (c .before .board-sides .ensures) (c .if1 .lef
 entries : (c : tie.Else2) → let s = c .before .before .before .before .before .before in s .args .brows * s .args .bcols ≤ 127 * 127
 entries c =
     let s = c .before .before .before .before .before .before .args in
-    let down = within 1 maxInfluenceSide (s .brows) in
-    let across = within 1 maxInfluenceSide (s .bcols) in
-    let e = passes (down && across) (c .before .influence-sides .ensures) (c .if2 .left) in
-    mul-le (within-high 1 127 (s .brows) (and-left down across e)) (within-high 1 127 (s .bcols) (and-right down across e))
+    let rowwise = within 1 maxInfluenceSide (s .brows) in
+    let colwise = within 1 maxInfluenceSide (s .bcols) in
+    let e = passes (rowwise && colwise) (c .before .influence-sides .ensures) (c .if2 .left) in
+    mul-le (within-high 1 127 (s .brows) (and-left rowwise colwise e)) (within-high 1 127 (s .bcols) (and-right rowwise colwise e))
 
 colours : (c : tie.Else3) → c .before .before .before .before .before .before .before .args .count ≤ 2 ^ 32
 colours c = omega (arith, c .before .before .before .before .before .before .before .fits)

@@ -97,7 +97,7 @@ change-colour-requires c κs = let i = c .before .before in
     let m = length-part (s .args .block .now) start (start + entries) (block-room i) in
     let g = s .pre .region in
     record {
-      region = record { wide = g .wide; down = g .down; across = g .across; ends = g .ends; room = omega (arith, n, g .room) };
+      region = record { wide = g .wide; rowwise = g .rowwise; colwise = g .colwise; ends = g .ends; room = omega (arith, n, g .room) };
       block-rows = s .pre .block-rows;
       block-cols = s .pre .block-cols;
       block-long = m ∙ omega arith;

@@ -5,9 +5,9 @@ use Prim.Native.Nat.{ℕ, _*_, _<_, _≤_}
 use native.Mathlib.Omega.{arith}
 use Rattle.base.proofs.Bools.{passes, fails}
 use Rattle.rules.specs.Tests.{onBoard}
-use Rattle.rules.specs.Grid.{numberOf}
+use Rattle.rules.specs.Grid.{entryOf}
 use Rattle.check_sizes.proofs.Sides.{few-cells}
-use Rattle.places.proofs.Indices.{number-below}
+use Rattle.places.proofs.Indices.{entry-below}
 use Rattle.probability_normal.proofs.Place.{off-board, on-board}
 use borrow.Author.Needs.{needs}
 use Rattle.probability_normal.proofs.take_place.Statement.{statement}
@@ -28,14 +28,14 @@ returns c = let k = c .before .before in
     let s = i .before .before .before .before in
     let a = s .args in
     k .fill .ensures
-    ∙ off-board (a .plane .now) (a .out .now) (a .rows) (a .cols) (a .count) (a .position) (a .offset) (s .pre .out-long)
-    (fails (onBoard (a .rows) (a .cols) (a .position) (a .offset)) (i .before .on-board .ensures) (i .if1 .taken))
+    ∙ off-board (a .plane .now) (a .out .now) (a .rows) (a .cols) (a .count) (a .place) (a .offset) (s .pre .out-long)
+    (fails (onBoard (a .rows) (a .cols) (a .place) (a .offset)) (i .before .on-board .ensures) (i .if1 .taken))
 
 cell-of-requires : tie.Need-cell-of-requires
 cell-of-requires c κs = search needs
 
 -- the cell is on the board, which has few cells
-boarded : (c : tie.After-cell-of) → let a = c .before .before .before .before .before .args in onBoard (a .rows) (a .cols) (a .position) (a .offset) ≡ true
+boarded : (c : tie.After-cell-of) → let a = c .before .before .before .before .before .args in onBoard (a .rows) (a .cols) (a .place) (a .offset) ≡ true
 boarded c = passes _ (c .before .before .on-board .ensures) (c .before .if1 .left)
 
 few : (c : tie.After-cell-of) → let a = c .before .before .before .before .before .args in a .rows * a .cols ≤ 4096
@@ -43,10 +43,10 @@ few c = few-cells _ _ (c .before .before .before .before .before .pre .sides)
 
 below : (c : tie.After-cell-of)
     → let a = c .before .before .before .before .before .args in
-    numberOf (a .cols) (c .cell-of .result) < a .rows * a .cols
+    entryOf (a .cols) (c .cell-of .result) < a .rows * a .cols
 below c =
     let a = c .before .before .before .before .before .args in
-    rw (c .cell-of .ensures) (number-below (a .rows) (a .cols) (a .position) (a .offset) (boarded c))
+    rw (c .cell-of .ensures) (entry-below (a .rows) (a .cols) (a .place) (a .offset) (boarded c))
 
 mul-gather : tie.Need-mul-gather
 mul-gather c = record { fits = omega (arith, few c) }
@@ -71,7 +71,7 @@ returns-2 c = let g = c .before .before in
     let s = k .before .before .before .before .before in
     let a = s .args in
     g .gather .ensures
-    ∙ on-board (a .plane .now) (a .out .now) (a .rows) (a .cols) (a .count) (a .position) (a .offset) (s .pre .out-long) (k .cell-of .ensures) (boarded k)
+    ∙ on-board (a .plane .now) (a .out .now) (a .rows) (a .cols) (a .count) (a .place) (a .offset) (s .pre .out-long) (k .cell-of .ensures) (boarded k)
 
 pub take-place-spec : {M : Type 1} → statement M
 take-place-spec =

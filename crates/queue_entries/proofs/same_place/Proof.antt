@@ -14,20 +14,20 @@ unfolding samePlace
 returns c =
     let d = c .before .before .before .before .before in
     let s = d .before .before .before .before in
-    let row-w : SFits w32 (s .args .w .0) = record { sfits = d .before .before .struct-told .given .0 .1 } in
-    let row-v : SFits w32 (s .args .v .0) = record { sfits = d .struct-told2 .given .0 .1 } in
-    let col-w : SFits w32 (s .args .w .1) = record { sfits = c .before .before .struct-told3 .given .1 .0 .1 } in
-    let col-v : SFits w32 (s .args .v .1) = record { sfits = c .struct-told4 .given .1 .0 .1 } in
-    and-go (eqZ (s .args .w .0) (s .args .v .0)) _ (bits-same row-w row-v (c .before .before .before .before .if1 .taken)) (bits-eqb col-w col-v)
+    let row-w : SFits w32 (s .args .place .0) = record { sfits = d .before .before .struct-told .given .0 .1 } in
+    let row-v : SFits w32 (s .args .other .0) = record { sfits = d .struct-told2 .given .0 .1 } in
+    let col-w : SFits w32 (s .args .place .1) = record { sfits = c .before .before .struct-told3 .given .1 .0 .1 } in
+    let col-v : SFits w32 (s .args .other .1) = record { sfits = c .struct-told4 .given .1 .0 .1 } in
+    and-go (eqZ (s .args .place .0) (s .args .other .0)) _ (bits-same row-w row-v (c .before .before .before .before .if1 .taken)) (bits-eqb col-w col-v)
 
 returns-2 : tie.Need-returns-2
 unfolding samePlace
 returns-2 c =
     let d = c .before in
     let s = d .before .before .before .before in
-    let row-w : SFits w32 (s .args .w .0) = record { sfits = d .before .before .struct-told .given .0 .1 } in
-    let row-v : SFits w32 (s .args .v .0) = record { sfits = d .struct-told2 .given .0 .1 } in
-    and-stop (eqZ (s .args .w .0) (s .args .v .0)) _ (bits-other row-w row-v (c .if1 .left))
+    let row-w : SFits w32 (s .args .place .0) = record { sfits = d .before .before .struct-told .given .0 .1 } in
+    let row-v : SFits w32 (s .args .other .0) = record { sfits = d .struct-told2 .given .0 .1 } in
+    and-stop (eqZ (s .args .place .0) (s .args .other .0)) _ (bits-other row-w row-v (c .if1 .left))
 
 pub same-place-spec : {M : Type 1} → statement M
 same-place-spec = tie.close (tie.spec returns returns-2)

@@ -26,14 +26,14 @@ returns c = search (chain, answers) depth 20 fits 5000
 
 accepts : (c : tie.Else1)
     → let a = c .before .before .before .before .before .args in
-    LayPasses (a .scores .now) (a .counts .now) (a .rows) (a .cols) (a .tiles) (a .position) (a .offset)
+    LayPasses (a .scores .now) (a .counts .now) (a .rows) (a .cols) (a .tiles) (a .place) (a .offset)
 accepts c = lay-passes _ _ _ _ _ _ _ (sym (c .before .lay-refused .ensures) ∙ c .if1 .left)
 
 get-region-spans-requires : tie.Need-get-region-spans-requires
 get-region-spans-requires c κs = search needs
 
-enum-known-down : tie.Need-enum-known-down
-enum-known-down c = search needs
+enum-known-rowround : tie.Need-enum-known-rowround
+enum-known-rowround c = search needs
 
 enum-told : tie.Need-enum-told
 enum-told c = search needs
@@ -46,28 +46,28 @@ returns-2 c = let g = c .before .before in
     absurd (never-refused _ _ _ _ 2 (accepts (g .before) .place) (omega arith) (g .get-region-spans .ensures) (c .enum-told .given .1))
 
 -- the spans are those round the cell, and small
-down-is : (c : tie.After-known-told)
+rowround-is : (c : tie.After-known-told)
     → let a = c .before .before .before .before .before .before .before .before .before .args in
-    c .before .down .given .0 .0 ≡ spanRound (cellOf (a .position) (a .offset) .0) 2
-down-is c =
+    c .before .rowround .given .0 .0 ≡ spanRound (cellOf (a .place) (a .offset) .0) 2
+rowround-is c =
     let g = c .before .before .before in
-    rows-round _ _ _ _ 2 (accepts (g .before) .place) (omega arith) (g .get-region-spans .ensures) (c .before .down .given .1)
+    rows-round _ _ _ _ 2 (accepts (g .before) .place) (omega arith) (g .get-region-spans .ensures) (c .before .rowround .given .1)
 
-across-is : (c : tie.After-known-told)
+colround-is : (c : tie.After-known-told)
     → let a = c .before .before .before .before .before .before .before .before .before .args in
-    c .before .down .given .0 .1 .0 ≡ spanRound (cellOf (a .position) (a .offset) .1) 2
-across-is c =
+    c .before .rowround .given .0 .1 .0 ≡ spanRound (cellOf (a .place) (a .offset) .1) 2
+colround-is c =
     let g = c .before .before .before in
-    cols-round _ _ _ _ 2 (accepts (g .before) .place) (omega arith) (g .get-region-spans .ensures) (c .before .down .given .1)
+    cols-round _ _ _ _ 2 (accepts (g .before) .place) (omega arith) (g .get-region-spans .ensures) (c .before .rowround .given .1)
 
 past-targets-requires : tie.Need-past-targets-requires
 past-targets-requires c κs =
     let i = c .before .before .before .before in
     let a = i .before .before .before .before .before .args in
     let s = accepts i in
-    let x : cellOf (a .position) (a .offset) .0 < a .rows = row-below (a .rows) (a .cols) (a .position) (a .offset) (s .place .boarded) in
+    let x : cellOf (a .place) (a .offset) .0 < a .rows = row-below (a .rows) (a .cols) (a .place) (a .offset) (s .place .boarded) in
     let n : a .rows ≤ 64 = board-rows (a .rows) (a .cols) (s .sides) .1 in
-    rw (down-is c) (omega arith, omega arith)
+    rw (rowround-is c) (omega arith, omega arith)
 
 past-targets-requires-2 : tie.Need-past-targets-requires-2
 past-targets-requires-2 c κs =
@@ -75,9 +75,9 @@ past-targets-requires-2 c κs =
     let i = k .before .before .before .before in
     let a = i .before .before .before .before .before .args in
     let s = accepts i in
-    let x : cellOf (a .position) (a .offset) .1 < a .cols = col-below (a .rows) (a .cols) (a .position) (a .offset) (s .place .boarded) in
+    let x : cellOf (a .place) (a .offset) .1 < a .cols = col-below (a .rows) (a .cols) (a .place) (a .offset) (s .place .boarded) in
     let n : a .cols ≤ 64 = board-cols (a .rows) (a .cols) (s .sides) .1 in
-    rw (across-is k) (omega arith, omega arith)
+    rw (colround-is k) (omega arith, omega arith)
 
 score-region-requires : tie.Need-score-region-requires
 score-region-requires c κs = let p = c .before in
@@ -102,7 +102,7 @@ returns-3 c = let k = c .before .before in
     (k .score-region .ensures
     ∙ rw (p .before .past-targets .ensures, p .past-targets2 .ensures)
     (lay-scored (a .scores .now) (a .counts .now) (a .rows) (a .cols) (a .tiles) (s .sides) (s .planes .scores-long)
-    (a .position) (a .offset) (s .place .boarded) (down-is d) (across-is d)))
+    (a .place) (a .offset) (s .place .boarded) (rowround-is d) (colround-is d)))
 
 pub update-feasibility-spec : {M : Type 1} → statement M
 update-feasibility-spec =
@@ -112,7 +112,7 @@ update-feasibility-spec =
     same-length
     returns
     get-region-spans-requires
-    enum-known-down
+    enum-known-rowround
     enum-told
     same-length-2
     returns-2

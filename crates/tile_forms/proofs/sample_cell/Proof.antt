@@ -2,7 +2,7 @@
 use Prim.Native.Nat.{_<_}
 use native.Mathlib.Omega.{arith}
 use Rattle.base.proofs.Numbers.{cell-lt, mul-le}
-use Rattle.rules.specs.Grid.{cellAt, numberOf}
+use Rattle.rules.specs.Grid.{cellAt, entryOf}
 use Rattle.tile_forms.proofs.Variants.{cell-below, cell-right, cell-there}
 use Rattle.tile_forms.proofs.sample_cell.Statement.{statement}
 use Rattle.tile_forms.proofs.sample_cell.Tie as tie
@@ -14,7 +14,7 @@ returns-2 : tie.Need-returns-2
 returns-2 c = cell-right _ _ _ _ _ (c .if2 .taken)
 
 -- the cell's number is that of one of at most 32 rows of 32
-in-sample : (c : tie.Else2) → let a = c .before .before .args in numberOf (a .cols) (cellAt (a .r) (a .c)) < 1024
+in-sample : (c : tie.Else2) → let a = c .before .before .args in entryOf (a .cols) (cellAt (a .r) (a .c)) < 1024
 in-sample c =
     let s = c .before .before in omega (arith, cell-lt (c .before .if1 .left) (c .if2 .left), mul-le (s .pre .low) (s .pre .narrow))
 

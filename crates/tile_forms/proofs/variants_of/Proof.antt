@@ -27,17 +27,17 @@ module _ (c : tie.After-forms-of) where
   abbrev s : tie.Start
   s = c .before .before .before
 
-  down : c .before .before .starts-along .result ≤ 30
-  down = omega (arith, c .before .before .starts-along .ensures, s .pre .0)
+  tall : c .before .before .starts-along .result ≤ 30
+  rowwise = omega (arith, c .before .before .starts-along .ensures, s .pre .0)
 
-  across : c .before .starts-along2 .result ≤ 30
-  across = omega (arith, c .before .starts-along2 .ensures, s .pre .1)
+  wide : c .before .starts-along2 .result ≤ 30
+  colwise = omega (arith, c .before .starts-along2 .ensures, s .pre .1)
 
   few : c .forms-of .result ≤ 8
   few = omega (arith, c .forms-of .ensures, forms-le (s .args .rotations) (s .args .reflections), turns-le (s .args .rotations))
 
   small : c .before .before .starts-along .result * c .before .starts-along2 .result * c .forms-of .result ≤ maxTiles
-  small = variants-le down across few
+  small = variants-le tall wide few
 
 mul-result-2 : tie.Need-mul-result-2
 mul-result-2 c = record { fits = omega (arith, small c) }

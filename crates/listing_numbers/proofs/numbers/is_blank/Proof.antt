@@ -6,7 +6,7 @@ use lib.ListN.{length}
 use borrow.Author.Tests.{eq-eqb, ne-eqb}
 use Rattle.base.specs.Counting.{some}
 use Rattle.base.proofs.Counted.{some-none, some-stop, some-next, some-done}
-use Rattle.listing_numbers.specs.Words.{isByte, isBlank}
+use Rattle.listing_numbers.specs.Decimals.{isByte, isBlank}
 use borrow.Author.Needs.{needs}
 use Rattle.listing_numbers.proofs.numbers.is_blank.Statement.{statement}
 use Rattle.listing_numbers.proofs.numbers.is_blank.Tie as tie

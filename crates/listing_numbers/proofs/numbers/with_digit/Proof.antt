@@ -1,6 +1,6 @@
 -- `listing_numbers::numbers::with_digit` meets its contract: the sum in 64 bits is the number, by arithmetic. Assumes nothing.
 use native.Mathlib.Omega.{arith}
-use Rattle.listing_numbers.specs.Words.{withDigit}
+use Rattle.listing_numbers.specs.Decimals.{withDigit}
 use borrow.Author.Needs.{needs}
 use Rattle.listing_numbers.proofs.numbers.with_digit.Statement.{statement}
 use Rattle.listing_numbers.proofs.numbers.with_digit.Tie as tie

@@ -33,13 +33,13 @@ returns c =
     let k = a .radius in
     four
     (f .pad-before .ensures
-    ∙ same-two (λ x o. padBefore o x k) (a .coordinates .0) (a .offset .0) (f .before .before .struct-told .given .0 .1) (f .before .struct-told2 .given .0 .1))
+    ∙ same-two (λ x o. padBefore o x k) (a .place .0) (a .offset .0) (f .before .before .struct-told .given .0 .1) (f .before .struct-told2 .given .0 .1))
     (e .pad-after .ensures
-    ∙ same-two (λ x o. padAfter (a .rows) o x k) (a .coordinates .0) (a .offset .0) (e .before .before .struct-told3 .given .0 .1) (e .before .struct-told4 .given .0 .1))
+    ∙ same-two (λ x o. padAfter (a .rows) o x k) (a .place .0) (a .offset .0) (e .before .before .struct-told3 .given .0 .1) (e .before .struct-told4 .given .0 .1))
     (d .pad-before2 .ensures
-    ∙ same-two (λ x o. padBefore o x k) (a .coordinates .1) (a .offset .1) (d .before .before .struct-told5 .given .1 .0 .1) (d .before .struct-told6 .given .1 .0 .1))
+    ∙ same-two (λ x o. padBefore o x k) (a .place .1) (a .offset .1) (d .before .before .struct-told5 .given .1 .0 .1) (d .before .struct-told6 .given .1 .0 .1))
     (c .pad-after2 .ensures
-    ∙ same-two (λ x o. padAfter (a .cols) o x k) (a .coordinates .1) (a .offset .1) (c .before .before .struct-told7 .given .1 .0 .1) (c .before .struct-told8 .given .1 .0 .1))
+    ∙ same-two (λ x o. padAfter (a .cols) o x k) (a .place .1) (a .offset .1) (c .before .before .struct-told7 .given .1 .0 .1) (c .before .struct-told8 .given .1 .0 .1))
 
 pub pads-of-spec : {M : Type 1} → statement M
 pads-of-spec =

@@ -8,10 +8,10 @@ use Rattle.replay.proofs.list.split.Statement.{statement}
 use Rattle.replay.proofs.list.split.Tie as tie
 
 abbrev Inv-loop : tie.InvT-loop
-Inv-loop line words₀ marks₀ state₀ i₀ words marks state i = (i ≤ length line) × ((length words ≡ length words₀) × (length marks ≡ length marks₀))
+Inv-loop line words₀ marks₀ state₀ i₀ values marks state i = (i ≤ length line) × ((length values ≡ length words₀) × (length marks ≡ length marks₀))
 
 abbrev μ-loop : tie.MeasureT-loop
-μ-loop line words₀ marks₀ state₀ i₀ words marks state i = length line - i
+μ-loop line words₀ marks₀ state₀ i₀ values marks state i = length line - i
 
 loop-holds : tie.Need-loop-holds Inv-loop μ-loop
 loop-holds c = search needs

@@ -7,10 +7,10 @@ use Rattle.replay.proofs.list.words_are.Statement.{statement}
 use Rattle.replay.proofs.list.words_are.Tie as tie
 
 abbrev Inv-loop : tie.InvT-loop
-Inv-loop words marks part cells i₀ i = i ≤ length cells
+Inv-loop values marks part cells i₀ i = i ≤ length cells
 
 abbrev μ-loop : tie.MeasureT-loop
-μ-loop words marks part cells i₀ i = length cells - i
+μ-loop values marks part cells i₀ i = length cells - i
 
 length-requires : tie.Need-length-requires Inv-loop μ-loop
 length-requires c κs = search needs
@@ -48,8 +48,8 @@ loop-again c = search needs
 returns-3 : tie.Need-returns-3 Inv-loop μ-loop
 returns-3 c = search needs
 
-pub words-are-spec : {M : Type 1} → statement M
-words-are-spec =
+pub values-are-spec : {M : Type 1} → statement M
+values-are-spec =
     tie.close
     (tie.spec
     Inv-loop

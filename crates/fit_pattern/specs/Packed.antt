@@ -15,9 +15,9 @@ shownBy window i = getD window i 0
 abbrev pub cellsFrom : List ℕ → ℕ → ℕ → ℕ
 cellsFrom cells at i = getD cells (at + i) 0
 
-unfoldable pub word : ℕ → (ℕ → ℕ) → ℕ
-word zero f = 0
-word (suc n) f = f n * 2 ^ (8 * n) + word n f
+unfoldable pub packed : ℕ → (ℕ → ℕ) → ℕ
+packed zero f = 0
+packed (suc n) f = f n * 2 ^ (8 * n) + packed n f
 
 -- what is left of a tile's cell where a window shows this colour: all of it, or nothing where the window is bare
 abbrev pub maskOf : ℕ → ℕ

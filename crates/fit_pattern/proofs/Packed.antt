@@ -21,51 +21,51 @@ use Rattle.base.specs.Counting.{pick, every}
 use Rattle.base.proofs.Bools.{and-left, and-right, and-both, or-left, by-test, same-test}
 use Rattle.base.proofs.Counted.{every-ext}
 use Rattle.rules.specs.Fit.{agrees, agreesAt, fitsTile}
-use Rattle.fit_pattern.specs.Words.{shownBy, cellsFrom, word, maskOf, Cells, Masked}
+use Rattle.fit_pattern.specs.Packed.{shownBy, cellsFrom, packed, maskOf, Cells, Masked}
 
-pub word-ext : (n : ℕ) (f g : ℕ → ℕ) → ((i : ℕ) → i < n → f i ≡ g i) → word n f ≡ word n g
-unfolding word
+pub word-ext : (n : ℕ) (f g : ℕ → ℕ) → ((i : ℕ) → i < n → f i ≡ g i) → packed n f ≡ packed n g
+unfolding packed
 word-ext zero f g h = refl
 word-ext (suc n) f g h = rw (h n (lt-suc-self n), word-ext n f g (λ i l. h i (le-step l)))
 
 power : (n : ℕ) → 256 * 2 ^ (8 * n) ≡ 2 ^ (8 * suc n)
 power n = sym (pow-add 2 8 (8 * n)) ∙ ap (λ (k : ℕ). 2 ^ k) (omega arith)
 
-pub word-lt : (n : ℕ) (f : ℕ → ℕ) → ((i : ℕ) → i < n → f i < 256) → word n f < 2 ^ (8 * n)
-unfolding word
+pub word-lt : (n : ℕ) (f : ℕ → ℕ) → ((i : ℕ) → i < n → f i < 256) → packed n f < 2 ^ (8 * n)
+unfolding packed
 word-lt zero f h = omega arith
-word-lt (suc n) f h = subst (λ (p : ℕ). f n * 2 ^ (8 * n) + word n f < p) (power n) (digits-lt (h n (lt-suc-self n)) (word-lt n f (λ i l. h i (le-step l))))
+word-lt (suc n) f h = subst (λ (p : ℕ). f n * 2 ^ (8 * n) + packed n f < p) (power n) (digits-lt (h n (lt-suc-self n)) (word-lt n f (λ i l. h i (le-step l))))
 
-pub word-join : (m n : ℕ) (f : ℕ → ℕ) → word (m + n) f ≡ word n (λ i. f (m + i)) * 2 ^ (8 * m) + word m f
-unfolding word
-word-join m zero f = ap (λ (k : ℕ). word k f) (add-zero m) ∙ omega arith
+pub word-join : (m n : ℕ) (f : ℕ → ℕ) → packed (m + n) f ≡ packed n (λ i. f (m + i)) * 2 ^ (8 * m) + packed m f
+unfolding packed
+word-join m zero f = ap (λ (k : ℕ). packed k f) (add-zero m) ∙ omega arith
 word-join m (suc n) f =
-    ap (λ (k : ℕ). word k f) (add-suc m n)
+    ap (λ (k : ℕ). packed k f) (add-suc m n)
     ∙ ap₂ (λ (a b : ℕ). f (m + n) * a + b)
     (ap (λ (k : ℕ). 2 ^ k) (let e : 8 * (m + n) ≡ 8 * n + 8 * m = omega arith in e) ∙ pow-add 2 (8 * n) (8 * m))
     (word-join m n f)
-    ∙ gather (f (m + n)) (2 ^ (8 * n)) (2 ^ (8 * m)) (word n (λ i. f (m + i))) (word m f)
+    ∙ gather (f (m + n)) (2 ^ (8 * n)) (2 ^ (8 * m)) (packed n (λ i. f (m + i))) (packed m f)
   where
     gather : (a p q b d : ℕ) → a * (p * q) + (b * q + d) ≡ (a * p + b) * q + d
     gather a p q b d = rw (add-mul (a * p) b q, mul-assoc a p q) (omega arith)
 
 -- the cells of a list from one on, as the code reads them
-pub pair-is : (cells : List ℕ) (at : ℕ) → getD cells (at + 1) 0 * 256 + getD cells at 0 ≡ word 2 (cellsFrom cells at)
-unfolding word
+pub pair-is : (cells : List ℕ) (at : ℕ) → getD cells (at + 1) 0 * 256 + getD cells at 0 ≡ packed 2 (cellsFrom cells at)
+unfolding packed
 pair-is cells at = let e : getD cells (at + 0) 0 ≡ getD cells at 0 = ap (λ (k : ℕ). getD cells k 0) (add-zero at) in omega arith
 
-pub joined : (m n : ℕ) (cells : List ℕ) (at : ℕ) {high low : ℕ} → high ≡ word n (cellsFrom cells (at + m)) → low ≡ word m (cellsFrom cells at)
-    → high * 2 ^ (8 * m) + low ≡ word (m + n) (cellsFrom cells at)
+pub joined : (m n : ℕ) (cells : List ℕ) (at : ℕ) {high low : ℕ} → high ≡ packed n (cellsFrom cells (at + m)) → low ≡ packed m (cellsFrom cells at)
+    → high * 2 ^ (8 * m) + low ≡ packed (m + n) (cellsFrom cells at)
 joined m n cells at p q =
     rw (p, q)
-    (ap (λ (x : ℕ). x * 2 ^ (8 * m) + word m (cellsFrom cells at)) (word-ext n _ _ (λ i l. ap (λ (k : ℕ). getD cells k 0) (add-assoc at m i)))
+    (ap (λ (x : ℕ). x * 2 ^ (8 * m) + packed m (cellsFrom cells at)) (word-ext n _ _ (λ i l. ap (λ (k : ℕ). getD cells k 0) (add-assoc at m i)))
     ∙ sym (word-join m n (cellsFrom cells at)))
 
-pub from-first : (n : ℕ) (cells : List ℕ) → word n (cellsFrom cells 0) ≡ word n (shownBy cells)
+pub from-first : (n : ℕ) (cells : List ℕ) → packed n (cellsFrom cells 0) ≡ packed n (shownBy cells)
 from-first n cells = word-ext n _ _ (λ i l. ap (λ (k : ℕ). getD cells k 0) (zero-add i))
 
-pub word-none : (n : ℕ) → word n (λ i. 0) ≡ 0
-unfolding word
+pub word-none : (n : ℕ) → packed n (λ i. 0) ≡ 0
+unfolding packed
 word-none zero = refl
 word-none (suc n) = omega (arith, word-none n)
 
@@ -84,19 +84,19 @@ digit-eq p a b r s l m = same-test _ _ from to
         eq-eqb _ _ (ap₂ (λ (x y : ℕ). x * p + y) (eqb-true a b (and-right (eqb r s) (eqb a b) e)) (eqb-true r s (and-left (eqb r s) (eqb a b) e)))
 
 pub word-eq : (n : ℕ) (f g : ℕ → ℕ) → ((i : ℕ) → i < n → f i < 256) → ((i : ℕ) → i < n → g i < 256)
-    → eqb (word n f) (word n g) ≡ every n (λ i. eqb (f i) (g i))
-unfolding word every
+    → eqb (packed n f) (packed n g) ≡ every n (λ i. eqb (f i) (g i))
+unfolding packed every
 word-eq zero f g h k = refl
 word-eq (suc n) f g h k =
-    digit-eq (2 ^ (8 * n)) (f n) (g n) (word n f) (word n g) (word-lt n f (λ i l. h i (le-step l))) (word-lt n g (λ i l. k i (le-step l)))
+    digit-eq (2 ^ (8 * n)) (f n) (g n) (packed n f) (packed n g) (word-lt n f (λ i l. h i (le-step l))) (word-lt n g (λ i l. k i (le-step l)))
     ∙ ap (λ (b : Bool). b && eqb (f n) (g n)) (word-eq n f g (λ i l. h i (le-step l)) (λ i l. k i (le-step l)))
 
 pub and-word : (n : ℕ) (f g : ℕ → ℕ) → ((i : ℕ) → i < n → f i < 256) → ((i : ℕ) → i < n → g i < 256)
-    → bitAnd (word n f) (word n g) ≡ word n (λ i. bitAnd (f i) (g i))
-unfolding word
+    → bitAnd (packed n f) (packed n g) ≡ packed n (λ i. bitAnd (f i) (g i))
+unfolding packed
 and-word zero f g h k = and-zero-l 0
 and-word (suc n) f g h k =
-    and-block (8 * n) (f n) (g n) (word n f) (word n g) (word-lt n f (λ i l. h i (le-step l))) (word-lt n g (λ i l. k i (le-step l)))
+    and-block (8 * n) (f n) (g n) (packed n f) (packed n g) (word-lt n f (λ i l. h i (le-step l))) (word-lt n g (λ i l. k i (le-step l)))
     ∙ ap (λ (x : ℕ). bitAnd (f n) (g n) * 2 ^ (8 * n) + x) (and-word n f g (λ i l. h i (le-step l)) (λ i l. k i (le-step l)))
 
 mask-lt : (b : Bool) → pick b 0 255 < 256
@@ -123,7 +123,7 @@ masked colour cell l = by-test (eqb colour 0) bare laid
 
 -- eight cells in one number, and the ninth
 pub masked-fits : (tiles window mask : List ℕ) (n : ℕ) → Masked window mask → ((i : ℕ) → getD tiles i 0 < 256)
-    → (eqb (bitAnd (word 8 (cellsFrom tiles (n * 9))) (word 8 (shownBy mask))) (word 8 (shownBy window))
+    → (eqb (bitAnd (packed 8 (cellsFrom tiles (n * 9))) (packed 8 (shownBy mask))) (packed 8 (shownBy window))
     && eqb (bitAnd (cellsFrom tiles (n * 9) 8) (shownBy mask 8)) (shownBy window 8)) ≡ fitsTile tiles (shownBy window) n
 unfolding fitsTile every
 masked-fits tiles window mask n k low = ap₂ _&&_ eight (at 8 (omega arith))
@@ -136,31 +136,31 @@ masked-fits tiles window mask n k low = ap₂ _&&_ eight (at 8 (omega arith))
     small : (i : ℕ) → i < 8 → shownBy mask i < 256
     small i l = rw (k .masks i (omega arith)) (mask-lt (eqb (shownBy window i) 0))
 
-    eight : eqb (bitAnd (word 8 (cellsFrom tiles (n * 9))) (word 8 (shownBy mask))) (word 8 (shownBy window))
+    eight : eqb (bitAnd (packed 8 (cellsFrom tiles (n * 9))) (packed 8 (shownBy mask))) (packed 8 (shownBy window))
         ≡ every 8 (agreesAt tiles (shownBy window) n)
     eight =
-        ap (λ (x : ℕ). eqb x (word 8 (shownBy window))) (and-word 8 (cellsFrom tiles (n * 9)) (shownBy mask) (λ i l. low (n * 9 + i)) small)
+        ap (λ (x : ℕ). eqb x (packed 8 (shownBy window))) (and-word 8 (cellsFrom tiles (n * 9)) (shownBy mask) (λ i l. low (n * 9 + i)) small)
         ∙ word-eq 8 _ _ (λ i l. and-lt 8 (cellsFrom tiles (n * 9) i) (shownBy mask i) (low (n * 9 + i)) (small i l)) (λ i l. k .cells .low i (omega arith))
         ∙ every-ext _ _ 8 (λ i l. at i (omega arith))
 
 -- eight cells and the ninth are all 0
-pub bare-cells : (window : List ℕ) → Cells window → (eqb (word 8 (shownBy window)) 0 && eqb (shownBy window 8) 0) ≡ every 9 (λ i. eqb (shownBy window i) 0)
+pub bare-cells : (window : List ℕ) → Cells window → (eqb (packed 8 (shownBy window)) 0 && eqb (shownBy window 8) 0) ≡ every 9 (λ i. eqb (shownBy window i) 0)
 unfolding every
 bare-cells window k =
     ap (λ (b : Bool). b && eqb (shownBy window 8) 0)
-    (ap (λ (z : ℕ). eqb (word 8 (shownBy window)) z) (sym (word-none 8))
+    (ap (λ (z : ℕ). eqb (packed 8 (shownBy window)) z) (sym (word-none 8))
     ∙ word-eq 8 (shownBy window) (λ i. 0) (λ i l. k .low i (omega arith)) (λ i l. omega arith))
 
 -- a tile that differs within the first eight cells does not fit; where it does not differ there, the ninth decides
 pub left-there : (tiles window mask : List ℕ) (n : ℕ) → Masked window mask → ((i : ℕ) → getD tiles i 0 < 256)
-    → (bitAnd (word 8 (cellsFrom tiles (n * 9))) (word 8 (shownBy mask)) ≡ word 8 (shownBy window) → ⊥)
+    → (bitAnd (packed 8 (cellsFrom tiles (n * 9))) (packed 8 (shownBy mask)) ≡ packed 8 (shownBy window) → ⊥)
     → false ≡ fitsTile tiles (shownBy window) n
 left-there tiles window mask n k low h =
     sym (ap (λ (b : Bool). b && eqb (bitAnd (cellsFrom tiles (n * 9) 8) (shownBy mask 8)) (shownBy window 8)) (ne-eqb _ _ h))
     ∙ masked-fits tiles window mask n k low
 
 pub ninth-decides : (tiles window mask : List ℕ) (n : ℕ) → Masked window mask → ((i : ℕ) → getD tiles i 0 < 256)
-    → bitAnd (word 8 (cellsFrom tiles (n * 9))) (word 8 (shownBy mask)) ≡ word 8 (shownBy window)
+    → bitAnd (packed 8 (cellsFrom tiles (n * 9))) (packed 8 (shownBy mask)) ≡ packed 8 (shownBy window)
     → eqb (bitAnd (cellsFrom tiles (n * 9) 8) (shownBy mask 8)) (shownBy window 8) ≡ fitsTile tiles (shownBy window) n
 ninth-decides tiles window mask n k low h =
     sym (ap (λ (b : Bool). b && eqb (bitAnd (cellsFrom tiles (n * 9) 8) (shownBy mask 8)) (shownBy window 8)) (eq-eqb _ _ h))

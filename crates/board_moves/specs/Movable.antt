@@ -9,10 +9,10 @@ use Rattle.board_near.specs.Near.{OnPlane, Nearby}
 use Rattle.board_weights.specs.Shares.{Light}
 
 -- a board whose planes were checked, and the spans of radius 2 round a cell of it
-pub record Standing (b : Board) (rows cols : ℕ) (tiles : List ℕ) (cell : Cell) (down across : Span) : Type 0 where
+pub record Movable (b : Board) (rows cols : ℕ) (tiles : List ℕ) (cell : Cell) (rowspan colspan : Span) : Type 0 where
   pub pieces : OnPlane (b .pieces) rows cols cell
   pub weights : OnPlane (b .weights) rows cols cell
   pub counts : OnPlane (b .counts) rows cols cell
-  pub near : Nearby rows cols cell down across
+  pub near : Nearby rows cols cell rowspan colspan
   pub ready : Countable (b .pieces) rows cols tiles
   pub light : Light (b .weights)

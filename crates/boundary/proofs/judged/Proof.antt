@@ -1,11 +1,11 @@
--- `boundary::told` meets its contract: each case of the answer gives its number and its values. Assumes nothing.
+-- `boundary::judged` meets its contract: each case of the answer gives its number and its values. Assumes nothing.
 use Rattle.boundary_slots.proofs.Storing.{puts}
 use Rattle.boundary.proofs.Back.{stored}
 use Rattle.boundary.specs.Boundary.{verdictNumber, verdictLeft}
 use mathlib.Core.Path.{refl}
 use borrow.Author.Needs.{needs}
-use Rattle.boundary.proofs.told.Statement.{statement}
-use Rattle.boundary.proofs.told.Tie as tie
+use Rattle.boundary.proofs.judged.Statement.{statement}
+use Rattle.boundary.proofs.judged.Tie as tie
 
 enum-known-answer : tie.Need-enum-known-answer
 enum-known-answer c = search needs
@@ -31,5 +31,5 @@ returns c = stored verdictNumber verdictLeft (c .before .before .before .before 
 returns-2 : tie.Need-returns-2
 returns-2 c = search needs
 
-pub told-spec : {M : Type 1} → statement M
-told-spec = tie.close (tie.spec enum-known-answer digit-requires put-word-requires enum-known-answer-2 cast-result same-length returns returns-2)
+pub judged-spec : {M : Type 1} → statement M
+judged-spec = tie.close (tie.spec enum-known-answer digit-requires put-word-requires enum-known-answer-2 cast-result same-length returns returns-2)
