@@ -40,7 +40,7 @@ fn less(n: u32, m: u32) -> u32
     if m < n { n - m } else { 0 }
 }
 
-// The cells of a row from column `left` on.
+// Raises each weight of `part`, which is a part of a row: it starts at column `left`.
 fn raise_row(part: &mut [u32], cell: Cell, row: usize, left: usize)
     requires { ⌜ (left + length (now part) ≤ maxBoardSide) × (Light (now part)) ⌝ }
     ensures { λ _. ⌜ after part ≡ overRow 0 (raisedBy cell) row left (before part) ⌝ }

@@ -2,7 +2,9 @@
 -- nothing.
 use Prim.Native.Nat.{ℕ}
 use mathlib.Core.Path.{_≡_, sym, _∙_, ap, subst}
+use denote.Ref.{RefT}
 use Rattle.base.specs.Refusal.{Gives}
+use Rattle.base.specs.Lent.{Lent}
 use Rattle.boundary.specs.Boundary.{Numbered}
 
 -- a call's answer passed on as its number and the values that are stored
@@ -19,9 +21,16 @@ pub numbered-at : {A B W O : Type 0} (number : A → ℕ) (promise : W → O →
 numbered-at {W = W} {O = O} number promise {w = w} {p = p} {a = a} {left = left} e d n g =
     record { answer = a; numbers = n; promised = subst (λ (x : W). promise x p a left) e (subst (λ (y : O). promise w y a left) d g) }
 
--- two results that meet such a promise coincide, where the call's own do
-pub numbered-coincide : {A B : Type 0} (number : A → ℕ) (promise : A → B → Type 0) → ((a c : A) (l m : B) → promise a l → promise c m → (a ≡ c) × (l ≡ m))
-    → {r s : ℕ} {l m : B} → Numbered number promise r l → Numbered number promise s m → (r ≡ s) × (l ≡ m)
-numbered-coincide number promise one {l = l} {m = m} x y =
-    let e = one (x .answer) (y .answer) l m (x .promised) (y .promised) in
+-- two results that meet a promise coincide
+abbrev pub Decides : {A B : Type 0} → (A → B → Type 0) → Type 0
+Decides {A = A} {B = B} promise = {a c : A} {l m : B} → promise a l → promise c m → (a ≡ c) × (l ≡ m)
+
+-- those that meet the promise of a number do so where those of the call's own promise do
+pub numbered-coincide : {A B : Type 0} (number : A → ℕ) (promise : A → B → Type 0) → Decides promise → Decides (Numbered number promise)
+numbered-coincide number promise one x y =
+    let e = one (x .promised) (y .promised) in
     (x .numbers ∙ ap number (e .0) ∙ sym (y .numbers), e .1)
+
+-- lent memory, as it is when a function begins and when it ends
+abbrev pub lent : {A : Type 0} → RefT A → RefT A → Lent A
+lent first last = record { entry = first; exit = last }

@@ -62,8 +62,8 @@ pub fn scan_refused(
     cells_refused(pieces, weights, tiles, count)
 }
 
-// Whether the cell is bare, has weight above 1 and lists no colour. The listing is no refusal, since the checks are made; were it one,
-// nothing would be said to be missing there.
+// Whether the cell is bare, has weight above 1 and lists no colour. The checks are made, so the listing is never a refusal; the `else` that
+// `let` asks for says "no dead end here" and is not reached.
 fn is_dead_end(
     pieces: &[u32],
     weights: &[u32],

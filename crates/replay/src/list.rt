@@ -24,7 +24,8 @@ fn next(n: usize) -> usize {
     if n < VALUES { n + 1 } else { n }
 }
 
-// The number with one digit more. Of 64 bits there is one number of twenty digits from 1844674407370955161 on for each last digit up to 5.
+// The number with one digit more. The largest of 64 bits is 18446744073709551615, so a number of twenty digits may end in 0 to 5 alone; what
+// is larger reads as one of those.
 fn grown(value: u64, digit: u64) -> u64 {
     if value < 1844674407370955161 {
         value * 10 + digit % 10

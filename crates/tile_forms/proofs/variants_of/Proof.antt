@@ -28,10 +28,10 @@ module _ (c : tie.After-forms-of) where
   s = c .before .before .before
 
   tall : c .before .before .starts-along .result ≤ 30
-  rowwise = omega (arith, c .before .before .starts-along .ensures, s .pre .0)
+  tall = omega (arith, c .before .before .starts-along .ensures, s .pre .0)
 
   wide : c .before .starts-along2 .result ≤ 30
-  colwise = omega (arith, c .before .starts-along2 .ensures, s .pre .1)
+  wide = omega (arith, c .before .starts-along2 .ensures, s .pre .1)
 
   few : c .forms-of .result ≤ 8
   few = omega (arith, c .forms-of .ensures, forms-le (s .args .rotations) (s .args .reflections), turns-le (s .args .rotations))

@@ -1,0 +1,59 @@
+-- Two results that meet the contract of a function for tests coincide: the number, and what the lent memory holds. One theorem a function.
+-- Assumes nothing.
+use Prim.Native.Nat.{ℕ}
+use mathlib.Core.Path.{_≡_}
+use mathlib.Core.Bool.{Bool}
+use mathlib.Core.List.{List}
+use lib.IntN.{ℤ}
+use lib.Ieee.{Float}
+use denote.Ref.{RefT}
+use Rattle.base.proofs.Chain.{coincide, gives-coincide}
+use Rattle.rules.specs.Places.{boxContains}
+use Rattle.rules.specs.Sets.{membersListed}
+use Rattle.rules.specs.Tiles.{rotated, reflected, membership}
+use Rattle.rules.specs.Promises.{before, CopiesWords, CopiesFloats}
+use Rattle.boundary_slots.specs.Slots.{world, setFrom}
+use Rattle.boundary.specs.Boundary.{Numbered, writtenNumber, TellsSet, TellsVerdict}
+use Rattle.harness_tiles.specs.Lent.{boxOf, padsBy, nineOf, putFrom, TellsExtension, TellsMembers, PortExtracts, extended, bytesWith}
+use Rattle.rules.specs.declared.ExtensionAnswer.{ExtensionAnswer}
+use Rattle.boundary.proofs.Back.{lent, Decides, numbered-coincide}
+
+pub port-contains-coincide : (minrow mincol maxrow maxcol row col : ℤ) (out : List ℕ)
+    → Decides (TellsVerdict (boxContains (boxOf minrow mincol maxrow maxcol) (world row col)) out)
+port-contains-coincide minrow mincol maxrow maxcol row col out = gives-coincide
+
+pub port-extend-u32-coincide : (plane : List ℕ) (rows cols left right top bottom : ℕ) (target : List ℕ)
+    → Decides (Numbered writtenNumber (CopiesWords rows cols (padsBy left right top bottom) plane target))
+port-extend-u32-coincide plane rows cols left right top bottom target = numbered-coincide _ _ gives-coincide
+
+pub port-extend-f64-coincide : (plane : List Float) (rows cols left right top bottom : ℕ) (target : List Float)
+    → Decides (Numbered writtenNumber (CopiesFloats rows cols (padsBy left right top bottom) plane target))
+port-extend-f64-coincide plane rows cols left right top bottom target = numbered-coincide _ _ gives-coincide
+
+pub port-rotate-90-coincide : (tile out : List ℕ) {l m : List ℕ} → l ≡ putFrom 0 (rotated (nineOf tile)) out → m ≡ putFrom 0 (rotated (nineOf tile)) out → l ≡ m
+port-rotate-90-coincide tile out = coincide
+
+pub port-reflect-coincide : (tile out : List ℕ) {l m : List ℕ} → l ≡ putFrom 0 (reflected (nineOf tile)) out → m ≡ putFrom 0 (reflected (nineOf tile)) out → l ≡ m
+port-reflect-coincide tile out = coincide
+
+pub port-membership-coincide : (tile : List ℕ) (count : ℕ) (out : List ℕ) → Decides (TellsSet (membership (nineOf tile) count) out)
+port-membership-coincide tile count out = gives-coincide
+
+-- both exports that tell an extension: the slices before the call, and as each of the two calls leaves them
+pub extension-coincide : (answer : ExtensionAnswer) (pads pads₁ pads₂ : RefT (List ℕ)) (offset offset₁ offset₂ : RefT (List ℤ)) (needed needed₁ needed₂ : RefT (List ℕ))
+    {r s : ℕ} → TellsExtension answer (lent pads pads₁) (lent offset offset₁) (lent needed needed₁) r
+    → TellsExtension answer (lent pads pads₂) (lent offset offset₂) (lent needed needed₂) s
+    → (r ≡ s) × (extended (pads₁ .now) (offset₁ .now) (needed₁ .now) ≡ extended (pads₂ .now) (offset₂ .now) (needed₂ .now))
+extension-coincide answer pads pads₁ pads₂ offset offset₁ offset₂ needed needed₁ needed₂ = gives-coincide
+
+pub port-set-to-vec-coincide : (bits size : ℕ) (colours colours₁ colours₂ len len₁ len₂ : RefT (List ℕ)) {r s : ℕ}
+    → TellsMembers (membersListed (setFrom bits size)) (lent colours colours₁) (lent len len₁) r
+    → TellsMembers (membersListed (setFrom bits size)) (lent colours colours₂) (lent len len₂) s
+    → (r ≡ s) × (bytesWith (colours₁ .now) (len₁ .now) ≡ bytesWith (colours₂ .now) (len₂ .now))
+port-set-to-vec-coincide bits size colours colours₁ colours₂ len len₁ len₂ = gives-coincide
+
+pub port-extract-tiles-coincide : (sample : List ℕ) (rows cols count : ℕ) (rotations reflections : Bool) (store store₁ store₂ out out₁ out₂ : RefT (List ℕ)) {r s : ℕ}
+    → PortExtracts sample rows cols count rotations reflections (lent store store₁) (lent out out₁) r
+    → PortExtracts sample rows cols count rotations reflections (lent store store₂) (lent out out₂) s
+    → (r ≡ s) × (bytesWith (store₁ .now) (out₁ .now) ≡ bytesWith (store₂ .now) (out₂ .now))
+port-extract-tiles-coincide sample rows cols count rotations reflections store store₁ store₂ out out₁ out₂ = gives-coincide
