@@ -1,4 +1,4 @@
--- What accepted checks give to the calls, beside `accepted-ready` of `windows`.
+-- What accepted checks give to the calls, beside `accepted-ready` of `fit_windows`.
 --     grid-on, place-on    a cell on the grid
 --     accepted-counted    a cell of accepted counts
 -- Assumes nothing.

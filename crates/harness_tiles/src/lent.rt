@@ -1,4 +1,4 @@
-// What crosses beyond the own of crates slots and boundary: boxes and tiles from numbers and slices, and values of several entries into
+// What crosses beyond the own of crates boundary_slots and boundary: boxes and tiles from numbers and slices, and values of several entries into
 // slices. An entry past the end of a slice is not stored; a refused call stores none.
 ghost use mathlib.Core.Path.{_≡_};
 ghost use lib.ListN.{getD};

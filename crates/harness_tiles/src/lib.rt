@@ -59,7 +59,7 @@ pub extern "C" fn port_calculate_extension(
 }
 
 #[no_mangle]
-pub extern "C" fn port_constrained_extension(
+pub extern "C" fn port_constrain_extension(
     rows: usize,
     cols: usize,
     down: i32,
@@ -81,7 +81,7 @@ pub extern "C" fn port_constrained_extension(
     let place = world_at(row, col);
     let from = offset_at(down, across);
     let bounds = lent::box_at(minrow, mincol, maxrow, maxcol);
-    let answer = place_extension::constrained_extension(rows, cols, from, place, radius, bounds);
+    let answer = place_extension::constrain_extension(rows, cols, from, place, radius, bounds);
     lent::extension_told(answer, pads, offset, needed)
 }
 

@@ -97,7 +97,7 @@ fn free(rows: usize, cols: usize, offset: Offset, at: World, radius: usize) {
 // A 5x5 grid at offset 0, round the given place with radius 2.
 fn boxed(at: World, min: World, max: World) {
     let bounds = BoundingBox { min, max };
-    grown(place_extension::constrained_extension(5, 5, Offset(0, 0), at, 2, bounds));
+    grown(place_extension::constrain_extension(5, 5, Offset(0, 0), at, 2, bounds));
 }
 
 fn words(target: &[u32]) {

@@ -13,6 +13,6 @@ pub calculate-extension : (rows cols : ℕ) (o : Offset) (w : World) (k : ℕ) {
     → r ≡ extensionOf rows cols o w k → s ≡ extensionOf rows cols o w k → r ≡ s
 calculate-extension rows cols o w k p q = coincide p q
 
-pub constrained-extension : (rows cols : ℕ) (o : Offset) (w : World) (k : ℕ) (b : BoundingBox) {r s : ExtensionAnswer}
+pub constrain-extension : (rows cols : ℕ) (o : Offset) (w : World) (k : ℕ) (b : BoundingBox) {r s : ExtensionAnswer}
     → r ≡ boxedExtension rows cols o w k b → s ≡ boxedExtension rows cols o w k b → r ≡ s
-constrained-extension rows cols o w k b p q = coincide p q
+constrain-extension rows cols o w k b p q = coincide p q

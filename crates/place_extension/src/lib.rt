@@ -38,7 +38,7 @@ pub fn calculate_extension(
 }
 
 // The same, and no further than a box. Where the grid already lies past the box, it does not shrink.
-pub fn constrained_extension(
+pub fn constrain_extension(
     rows: usize,
     cols: usize,
     offset: Offset,

@@ -1,4 +1,4 @@
--- `harness_tiles::port_constrained_extension` meets its contract: the answer by its definition, passed on. Assumes nothing.
+-- `harness_tiles::port_constrain_extension` meets its contract: the answer by its definition, passed on. Assumes nothing.
 use mathlib.Core.Path.{_∙_, ap, ap₂}
 use Rattle.boundary_slots.proofs.Storing.{world-is, offset-is}
 use Rattle.boundary.proofs.Back.{passed-on}
@@ -10,8 +10,8 @@ use Rattle.rules.specs.declared.BoundingBox.{BoundingBox}
 use Rattle.boundary_slots.specs.Slots.{world, offsetBy}
 use Rattle.harness_tiles.proofs.Stored.{box-is}
 use borrow.Author.Needs.{needs}
-use Rattle.harness_tiles.proofs.port_constrained_extension.Statement.{statement}
-use Rattle.harness_tiles.proofs.port_constrained_extension.Tie as tie
+use Rattle.harness_tiles.proofs.port_constrain_extension.Statement.{statement}
+use Rattle.harness_tiles.proofs.port_constrain_extension.Tie as tie
 
 world-at-requires : tie.Need-world-at-requires
 world-at-requires c κs = search needs
@@ -22,8 +22,8 @@ offset-at-requires c κs = search needs
 box-at-requires : tie.Need-box-at-requires
 box-at-requires c κs = search needs
 
-constrained-extension-requires : tie.Need-constrained-extension-requires
-constrained-extension-requires c κs = search needs
+constrain-extension-requires : tie.Need-constrain-extension-requires
+constrain-extension-requires c κs = search needs
 
 extension-told-requires : tie.Need-extension-told-requires
 extension-told-requires c κs = search needs
@@ -42,7 +42,7 @@ returns c =
     let e = c .before .before .before .before .before .before .before .before .before .before .before .before .before .before .before in
     let a = e .args in
     passed-on extensionNumber extensionLeft
-    (c .before .before .before .before .before .before .before .before .before .constrained-extension .ensures
+    (c .before .before .before .before .before .before .before .before .before .constrain-extension .ensures
     ∙ ap₂ (λ (w : World) (o : Offset). boxedExtension (a .rows) (a .cols) o w (a .radius) (c .before .before .before .before .before .before .before .before .before .before .box-at .result))
     (c .before .before .before .before .before .before .before .before .before .before .before .before .world-at .ensures ∙ world-is (e .fits .row) (e .fits .col))
     (c .before .before .before .before .before .before .before .before .before .before .before .offset-at .ensures ∙ offset-is (e .fits .down) (e .fits .across))
@@ -50,14 +50,14 @@ returns c =
     (c .before .before .before .before .before .before .before .before .before .before .box-at .ensures ∙ box-is (e .fits .minrow) (e .fits .mincol) (e .fits .maxrow) (e .fits .maxcol)))
     (c .before .before .before .before .before .extension-told .ensures)
 
-pub port-constrained-extension-spec : {M : Type 1} → statement M
-port-constrained-extension-spec =
+pub port-constrain-extension-spec : {M : Type 1} → statement M
+port-constrain-extension-spec =
     tie.close
     (tie.spec
     world-at-requires
     offset-at-requires
     box-at-requires
-    constrained-extension-requires
+    constrain-extension-requires
     extension-told-requires
     same-length
     same-length-2

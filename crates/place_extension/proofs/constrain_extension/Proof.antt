@@ -1,4 +1,4 @@
--- `place_extension::constrained_extension` meets its contract: a refusal is handed on, then the box is asked, then the pads are held to it.
+-- `place_extension::constrain_extension` meets its contract: a refusal is handed on, then the box is asked, then the pads are held to it.
 -- Assumes nothing.
 use borrow.Author.Needs.{needs}
 use mathlib.Core.Path.{sym, _∙_, ap, subst}
@@ -8,8 +8,8 @@ use Rattle.rules.specs.Places.{boxedExtension, extensionBy, boxedPads}
 use Rattle.place_extension.specs.Given.{Reached, PadsIn}
 use Rattle.place_extension.proofs.Edges.{pads-low, boxed-low}
 use Rattle.place_extension.proofs.Reach.{reached}
-use Rattle.place_extension.proofs.constrained_extension.Statement.{statement}
-use Rattle.place_extension.proofs.constrained_extension.Tie as tie
+use Rattle.place_extension.proofs.constrain_extension.Statement.{statement}
+use Rattle.place_extension.proofs.constrain_extension.Tie as tie
 
 extension-refused-requires : tie.Need-extension-refused-requires
 extension-refused-requires c κs = search needs
@@ -51,8 +51,8 @@ returns-3 c =
     let given = c .extension-by .ensures ∙ ap (extensionBy (a .offset)) held in
     search (chain, answers) depth 20 fits 5000
 
-pub constrained-extension-spec : {M : Type 1} → statement M
-constrained-extension-spec =
+pub constrain-extension-spec : {M : Type 1} → statement M
+constrain-extension-spec =
     tie.close
     (tie.spec
     extension-refused-requires
