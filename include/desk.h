@@ -53,8 +53,8 @@ enum desk_refusal {
 /* The colours that fit at a place. The nine 3x3 windows that hold the cell are looked at, but those that would start above or left of the
  * board; those past its bottom or right edge count too, and are bare there. A colour fits if each of these windows has a tile that equals
  * the pieces that lie there, the cell's own too, and has that colour at the cell.
- * Reads all of pieces and tiles. found is written: its first word gets the set, bit t-1 for colour t (found[0] == 0: no colour fits).
- * Lend one word; further words are left alone today and are kept for what a listing may tell later. With found_len 0 nothing is stored.
+ * Reads all of pieces and tiles. found is written: its first entry gets the set, bit t-1 for colour t (found[0] == 0: no colour fits).
+ * Lend one entry; further ones are left alone today and are kept for what a listing may tell later. With found_len 0 nothing is stored.
  * Refusals: SHAPE, LENGTH, COUNT, CELL, PLACE. */
 uint32_t desk_fitting_colours(const uint32_t *pieces, size_t pieces_len, size_t rows, size_t cols, const uint8_t *tiles, size_t tiles_len,
                               uint32_t count, int32_t row, int32_t col, int32_t down, int32_t across, uint64_t *found, size_t found_len);

@@ -12,7 +12,7 @@ use Rattle.rules.specs.declared.Listing.the-variants as Listing·
 use Rattle.boundary_slots.specs.Slots.{put, world, offsetBy}
 use Rattle.boundary.specs.Boundary.{Numbered, listingNumber, layNumber, liftNumber}
 
--- what a listing leaves in the words lent for it: the set of colours in the first, colour t as bit t-1; nothing where it is refused
+-- what a listing leaves in the entries lent for it: the set of colours in the first, colour t as bit t-1; nothing where it is refused
 abbrev pub coloursLeft : Listing → List ℕ → List ℕ
 coloursLeft (Listing·.Colours s) found = put found 0 (s .bits)
 coloursLeft (Listing·.Refused n) found = found

@@ -1,5 +1,5 @@
--- What crosses beyond the own of crates boundary_slots and boundary: a box and pads from their numbers, a tile from a slice, and what an extension,
--- a list of colours and a store of tiles leave in the slices lent for them. The promises of functions that tell such an answer take these
+-- What crosses beside what crates boundary_slots and boundary have: a box and pads from their numbers, a tile from a slice, and what an
+-- extension, a list of colours and a store of tiles leave in the slices lent for them. The promises of functions that tell such an answer take these
 -- slices as they are lent, for what they hold before and after.
 use Prim.Native.Nat.{ℕ, _+_}
 use mathlib.Core.Bool.{Bool}

@@ -1,5 +1,5 @@
-// What crosses beyond the own of crates boundary_slots and boundary: boxes and tiles from numbers and slices, and values of several entries into
-// slices. An entry past the end of a slice is not stored; a refused call stores none.
+// What crosses beside what crates boundary_slots and boundary have: boxes and tiles from numbers and slices, and values of several entries
+// into slices. An entry past the end of a slice is not stored; a refused call stores none.
 ghost use mathlib.Core.Path.{_≡_};
 ghost use lib.ListN.{getD};
 ghost use Rattle.rules.specs.Promises.{before, after};

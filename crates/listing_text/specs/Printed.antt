@@ -1,5 +1,5 @@
--- Document 01, "Listing program": what it prints, byte by byte, for every input. The steps' answers are in `listing_steps`, what stands under
--- them in `listing_end`.
+-- Document 01, "Listing program": what it prints, byte by byte, for every input. The steps' answers are in `listing_steps`, what
+-- stands under them in `listing_end`.
 use Prim.Native.Nat.{ℕ, zero, suc, _*_}
 use mathlib.Core.List.{List, [], _∷_, _++_}
 use Rattle.base.specs.Counting.{pick}
