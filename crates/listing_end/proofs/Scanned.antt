@@ -22,7 +22,7 @@ use Rattle.rules.specs.Board.{Board}
 use Rattle.listing_job.specs.declared.Setup.{Setup}
 use Rattle.listing_lines.specs.Pages.{Prints}
 use Rattle.listing_lines.proofs.Written.{writes-as}
-use Rattle.listing_end.specs.Ending.{refusedLine, planesText, endText, panelWith, deadEndText, deadEndWords, noneLine, scanText}
+use Rattle.listing_end.specs.Ending.{refusedLine, planesText, endText, panelWith, deadEndText, deadEndStart, noneLine, scanText}
 use Rattle.listing_end.specs.Near.{Near}
 
 -- ---- the scan, case by case
@@ -30,7 +30,7 @@ pub scan-at : {d : DeadEnd} (cell : Cell) → d ≡ DeadEnd·.At cell → deadEn
 unfolding scanText
 scan-at cell e = rw e
 
-pub scan-nowhere : {d : DeadEnd} → d ≡ DeadEnd·.Nowhere → deadEndWords ++ noneLine ≡ scanText d
+pub scan-nowhere : {d : DeadEnd} → d ≡ DeadEnd·.Nowhere → deadEndStart ++ noneLine ≡ scanText d
 unfolding scanText
 scan-nowhere e = rw e
 

@@ -31,8 +31,8 @@ abbrev pub fitsLine : List ℕ
 fitsLine = 102 ∷ 105 ∷ 116 ∷ 115 ∷ 10 ∷ []
 
 -- `dead end `, and `none`
-abbrev pub deadEndWords : List ℕ
-deadEndWords = 100 ∷ 101 ∷ 97 ∷ 100 ∷ 32 ∷ 101 ∷ 110 ∷ 100 ∷ 32 ∷ []
+abbrev pub deadEndStart : List ℕ
+deadEndStart = 100 ∷ 101 ∷ 97 ∷ 100 ∷ 32 ∷ 101 ∷ 110 ∷ 100 ∷ 32 ∷ []
 
 abbrev pub noneLine : List ℕ
 noneLine = 110 ∷ 111 ∷ 110 ∷ 101 ∷ 10 ∷ []
@@ -46,12 +46,12 @@ planesText b cols =
     (headed piecesLine bare (b .pieces) cols ++ headed weightsLine 0 (b .weights) cols) ++ headed fitsLine 0 (b .counts) cols
 
 unfoldable pub deadEndText : Cell → List ℕ
-deadEndText cell = ((deadEndWords ++ decimal (cell .0)) ++ 32 ∷ []) ++ numberLine (cell .1)
+deadEndText cell = ((deadEndStart ++ decimal (cell .0)) ++ 32 ∷ []) ++ numberLine (cell .1)
 
 -- the scan; it is never refused here
 unfoldable pub scanText : DeadEnd → List ℕ
 scanText (DeadEnd·.At cell) = deadEndText cell
-scanText DeadEnd·.Nowhere = deadEndWords ++ noneLine
+scanText DeadEnd·.Nowhere = deadEndStart ++ noneLine
 scanText (DeadEnd·.Refused n) = refusedLine n
 
 -- Offset 0: a row and a column are the wall coordinate and the cell index alike

@@ -8,7 +8,7 @@ ghost use Rattle.rules.specs.Tests.{boardSides};
 ghost use Rattle.rules.specs.Promises.{before, after, boardBefore};
 ghost use Rattle.listing_lines.specs.Lines.{planeText};
 ghost use Rattle.listing_lines.specs.Pages.{Prints};
-ghost use Rattle.listing_end.specs.Ending.{refusedLine, planesText, deadEndText, scanText, deadEndWords, noneLine, endText, panelWith};
+ghost use Rattle.listing_end.specs.Ending.{refusedLine, planesText, deadEndText, scanText, deadEndStart, noneLine, endText, panelWith};
 ghost use Rattle.listing_end.specs.Near.{Near};
 use listing_job::Setup;
 use rules::Cell;
@@ -63,7 +63,7 @@ fn put_dead_end(out: &mut [u8], at: usize, cell: Cell) -> usize
 }
 
 fn put_no_dead_end(out: &mut [u8], at: usize) -> usize
-    ensures { λ r. ⌜ Prints (deadEndWords ++ noneLine) at (before out) r (after out) ⌝ }
+    ensures { λ r. ⌜ Prints (deadEndStart ++ noneLine) at (before out) r (after out) ⌝ }
 {
     listing_lines::put_text(out, at, b"dead end none\n")
 }
