@@ -5,6 +5,7 @@ use mathlib.Core.Path.{_≡_, sym, _∙_, ap, subst}
 use denote.Ref.{RefT}
 use Rattle.base.specs.Refusal.{Gives}
 use Rattle.base.specs.Lent.{Lent}
+use Rattle.base.proofs.Chain.{gives-coincide}
 use Rattle.boundary.specs.Boundary.{Numbered}
 
 -- a call's answer passed on as its number and the values that are stored
@@ -23,12 +24,15 @@ numbered-at {W = W} {O = O} number promise {w = w} {p = p} {a = a} {left = left}
 
 -- two results that meet a promise coincide
 abbrev pub Decides : {A B : Type 0} → (A → B → Type 0) → Type 0
-Decides {A = A} {B = B} promise = {a c : A} {l m : B} → promise a l → promise c m → (a ≡ c) × (l ≡ m)
+Decides {A = A} {B = B} promise = (a c : A) (l m : B) → promise a l → promise c m → (a ≡ c) × (l ≡ m)
 
--- those that meet the promise of a number do so where those of the call's own promise do
-pub numbered-coincide : {A B : Type 0} (number : A → ℕ) (promise : A → B → Type 0) → Decides promise → Decides (Numbered number promise)
-numbered-coincide number promise one x y =
-    let e = one (x .promised) (y .promised) in
+-- those that meet a promise of an answer and of what is left, and of the number of a call's answer where those of the call's own do
+pub gives-decides : {A B : Type 0} (answer : A) (left : B) → Decides (Gives answer left)
+gives-decides answer left a c l m x y = gives-coincide x y
+
+pub numbered-decides : {A B : Type 0} (number : A → ℕ) (promise : A → B → Type 0) → Decides promise → Decides (Numbered number promise)
+numbered-decides number promise one r s l m x y =
+    let e = one (x .answer) (y .answer) l m (x .promised) (y .promised) in
     (x .numbers ∙ ap number (e .0) ∙ sym (y .numbers), e .1)
 
 -- lent memory, as it is when a function begins and when it ends

@@ -3,17 +3,16 @@
 use Prim.Native.Nat.{ℕ}
 use mathlib.Core.List.{List}
 use lib.IntN.{ℤ}
-use Rattle.base.proofs.Chain.{gives-coincide}
 use Rattle.rules.specs.Board.{Board}
-use Rattle.boundary.proofs.Back.{Decides, numbered-coincide}
+use Rattle.boundary.proofs.Back.{Decides, gives-decides, numbered-decides}
 use Rattle.desk.specs.Desk.{DeskLists, DeskLays, DeskLifts}
 
 module _ (rows cols : ℕ) (tiles : List ℕ) (count : ℕ) (row col down across : ℤ) where
   pub fitting-coincide : (pieces found : List ℕ) → Decides (DeskLists pieces rows cols tiles count row col down across found)
-  fitting-coincide pieces found = gives-coincide
+  fitting-coincide pieces found = gives-decides _ _
 
   pub lay-coincide : (colour : ℕ) (old : Board) → Decides (DeskLays rows cols tiles count row col down across colour old)
-  lay-coincide colour old = numbered-coincide _ _ gives-coincide
+  lay-coincide colour old = numbered-decides _ _ (gives-decides _ _)
 
   pub lift-coincide : (old : Board) → Decides (DeskLifts rows cols tiles count row col down across old)
-  lift-coincide old = numbered-coincide _ _ gives-coincide
+  lift-coincide old = numbered-decides _ _ (gives-decides _ _)

@@ -14,15 +14,15 @@ use Rattle.rules.specs.declared.World.{World}
 use Rattle.rules.specs.declared.Offset.{Offset}
 use Rattle.rules.specs.declared.GenerationBounds.{GenerationBounds}
 use Rattle.rules.specs.declared.ForcedPositions.{ForcedPositions}
-use Rattle.boundary.proofs.Back.{lent, Decides}
+use Rattle.boundary.proofs.Back.{lent, Decides, gives-decides}
 
 pub port-queue-is-empty-coincide : (coordinates : List ℤ) (colours : List ℕ) (len : ℕ) (out : List ℕ)
     → Decides (TellsVerdict (queueEmpty (queueFrom coordinates colours len)) out)
-port-queue-is-empty-coincide coordinates colours len out = gives-coincide
+port-queue-is-empty-coincide coordinates colours len out = gives-decides _ _
 
 pub port-queue-len-coincide : (coordinates : List ℤ) (colours : List ℕ) (len : ℕ) (out : List ℕ)
     → Decides (TellsCount (queueLength (queueFrom coordinates colours len)) out)
-port-queue-len-coincide coordinates colours len out = gives-coincide
+port-queue-len-coincide coordinates colours len out = gives-decides _ _
 
 -- the queue's slices before the call, and as each of the two calls leaves them
 module _ (coordinates coordinates₁ coordinates₂ : RefT (List ℤ)) (colours colours₁ colours₂ len len₁ len₂ : RefT (List ℕ)) {r s : ℕ} where

@@ -16,19 +16,19 @@ use Rattle.boundary_slots.specs.Slots.{world, setFrom}
 use Rattle.boundary.specs.Boundary.{Numbered, writtenNumber, TellsSet, TellsVerdict}
 use Rattle.harness_tiles.specs.Lent.{boxOf, padsBy, nineOf, putFrom, TellsExtension, TellsMembers, PortExtracts, extended, bytesWith}
 use Rattle.rules.specs.declared.ExtensionAnswer.{ExtensionAnswer}
-use Rattle.boundary.proofs.Back.{lent, Decides, numbered-coincide}
+use Rattle.boundary.proofs.Back.{lent, Decides, gives-decides, numbered-decides}
 
 pub port-contains-coincide : (minrow mincol maxrow maxcol row col : ℤ) (out : List ℕ)
     → Decides (TellsVerdict (boxContains (boxOf minrow mincol maxrow maxcol) (world row col)) out)
-port-contains-coincide minrow mincol maxrow maxcol row col out = gives-coincide
+port-contains-coincide minrow mincol maxrow maxcol row col out = gives-decides _ _
 
 pub port-extend-u32-coincide : (plane : List ℕ) (rows cols left right top bottom : ℕ) (target : List ℕ)
     → Decides (Numbered writtenNumber (CopiesWords rows cols (padsBy left right top bottom) plane target))
-port-extend-u32-coincide plane rows cols left right top bottom target = numbered-coincide _ _ gives-coincide
+port-extend-u32-coincide plane rows cols left right top bottom target = numbered-decides _ _ (gives-decides _ _)
 
 pub port-extend-f64-coincide : (plane : List Float) (rows cols left right top bottom : ℕ) (target : List Float)
     → Decides (Numbered writtenNumber (CopiesFloats rows cols (padsBy left right top bottom) plane target))
-port-extend-f64-coincide plane rows cols left right top bottom target = numbered-coincide _ _ gives-coincide
+port-extend-f64-coincide plane rows cols left right top bottom target = numbered-decides _ _ (gives-decides _ _)
 
 pub port-rotate-90-coincide : (tile out : List ℕ) {l m : List ℕ} → l ≡ putFrom 0 (rotated (nineOf tile)) out → m ≡ putFrom 0 (rotated (nineOf tile)) out → l ≡ m
 port-rotate-90-coincide tile out = coincide
@@ -37,7 +37,7 @@ pub port-reflect-coincide : (tile out : List ℕ) {l m : List ℕ} → l ≡ put
 port-reflect-coincide tile out = coincide
 
 pub port-membership-coincide : (tile : List ℕ) (count : ℕ) (out : List ℕ) → Decides (TellsSet (membership (nineOf tile) count) out)
-port-membership-coincide tile count out = gives-coincide
+port-membership-coincide tile count out = gives-decides _ _
 
 -- both exports that tell an extension: the slices before the call, and as each of the two calls leaves them
 pub extension-coincide : (answer : ExtensionAnswer) (pads pads₁ pads₂ : RefT (List ℕ)) (offset offset₁ offset₂ : RefT (List ℤ)) (needed needed₁ needed₂ : RefT (List ℕ))
