@@ -16,5 +16,5 @@ returns c = search needs
 returns-2 : tie.Need-returns-2
 returns-2 c = search needs
 
-pub cut-values-spec : {M : Type 1} → statement M
-cut-values-spec = tie.close (tie.spec slice-aggregate-result returns returns-2)
+pub cut-words-spec : {M : Type 1} → statement M
+cut-words-spec = tie.close (tie.spec slice-aggregate-result returns returns-2)

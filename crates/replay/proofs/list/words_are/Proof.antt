@@ -48,8 +48,8 @@ loop-again c = search needs
 returns-3 : tie.Need-returns-3 Inv-loop μ-loop
 returns-3 c = search needs
 
-pub values-are-spec : {M : Type 1} → statement M
-values-are-spec =
+pub words-are-spec : {M : Type 1} → statement M
+words-are-spec =
     tie.close
     (tie.spec
     Inv-loop
