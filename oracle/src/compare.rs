@@ -9,9 +9,9 @@ pub mod sequences;
 pub mod sets;
 pub mod tiles;
 
-use crate::calls::Refusal;
+use crate::calls::{NUMBER, Refusal};
 use crate::inputs::{self, TileList};
-use crate::outcome::{Damage, Outcome, Value, set_damage};
+use crate::outcome::{Damage, Outcome, Plane, Value, set_damage};
 use crate::random::{Random, name_seed};
 use crate::record::{self, Parts};
 use std::fmt::Debug;
@@ -40,6 +40,10 @@ pub trait Input: Clone + Debug {
 
     /// Puts in one fault, whatever else is wrong already; now and then it is none.
     fn spoil(&mut self, random: &mut Random);
+
+    /// Puts NaNs of any sign and payload into the plane of floats that the call may write, where its answer stays the same.
+    /// A contract cannot tell one NaN from another, so only here is it seen that a refused call leaves their bits alone.
+    fn lend_nans(&mut self, _random: &mut Random) {}
 
     /// Another input of the same step, inside the domain if this one is.
     fn disturb(&mut self, random: &mut Random);
@@ -74,6 +78,8 @@ pub struct Shows {
     pub answer: bool,
     /// planes that it writes
     pub planes: bool,
+    /// those planes are of floats
+    pub floats: bool,
     pub refusals: bool,
     /// lent slices, with guard words
     pub lends: bool,
@@ -98,10 +104,23 @@ pub enum Meddle {
     Refusal,
     /// a plane is changed although the call is refused
     RefusedWrite,
+    /// a NaN of a plane is rewritten before the call answers this number: a port that does so can be proved
+    Nan(Refusal, Rewrite),
+}
+
+/// What becomes of the NaN.
+#[derive(Clone, Copy, Debug, PartialEq, Eq)]
+pub enum Rewrite {
+    /// `f64::NAN`
+    Plain,
+    /// its sign is the other one
+    Negated,
+    /// it signals no more, as after any operation
+    Quieted,
 }
 
 impl Meddle {
-    pub const ALL: [(&'static str, Meddle); 8] = [
+    pub const ALL: [(&'static str, Meddle); 11] = [
         ("feed", Meddle::Feed),
         ("answer", Meddle::Answer),
         ("plane", Meddle::Plane),
@@ -110,6 +129,9 @@ impl Meddle {
         ("read", Meddle::Read),
         ("refusal", Meddle::Refusal),
         ("refused-write", Meddle::RefusedWrite),
+        ("plain-nan", Meddle::Nan(NUMBER, Rewrite::Plain)),
+        ("negated-nan", Meddle::Nan(NUMBER, Rewrite::Negated)),
+        ("quieted-nan", Meddle::Nan(NUMBER, Rewrite::Quieted)),
     ];
 
     pub fn applies(self, shows: Shows) -> bool {
@@ -121,6 +143,7 @@ impl Meddle {
             Meddle::Read => shows.reads,
             Meddle::Refusal => shows.refusals,
             Meddle::RefusedWrite => shows.refusals && shows.planes,
+            Meddle::Nan(..) => shows.refusals && shows.floats,
         }
     }
 
@@ -157,6 +180,17 @@ impl Meddle {
                     && let Some(plane) = outcome.planes.iter_mut().find(|plane| plane.len() > 0)
                 {
                     plane.flip(random.below(plane.len()));
+                }
+            }
+            Meddle::Nan(number, rewrite) => {
+                if outcome.answer == Err(number)
+                    && let Some(bits) = outcome.planes.iter_mut().find_map(Plane::nan)
+                {
+                    *bits = match rewrite {
+                        Rewrite::Plain => f64::NAN.to_bits(),
+                        Rewrite::Negated => *bits ^ 1 << 63,
+                        Rewrite::Quieted => *bits | 1 << 51,
+                    };
                 }
             }
             Meddle::Feed | Meddle::Before | Meddle::After | Meddle::Read => {}
@@ -302,14 +336,18 @@ pub fn run<I: Input>(name: &'static str, share: u64, step: I::Step, plan: &Plan)
             tiles = inputs::tile_list(&mut random);
         }
         let mut random = Random::new(&[plan.seed, name_seed(name), number, 2]);
-        let input = I::random(step, &mut random, &tiles);
+        let mut input = I::random(step, &mut random, &tiles);
+        // numbers of their own, so that the input and its faults are the same without them
+        let mut nans = Random::new(&[plan.seed, name_seed(name), number, 3]);
+        input.lend_nans(&mut nans);
         let from = || format!("seed {}, input {number}", plan.seed);
         if plan.random {
             judge(&mut tally, &input, number, &from);
             tally.random += 1;
         }
         if plan.faults && I::shows(step).refusals {
-            let spoilt = spoil(&input, &mut random);
+            let mut spoilt = spoil(&input, &mut random);
+            spoilt.lend_nans(&mut nans);
             judge(&mut tally, &spoilt, number, &|| format!("{}, spoilt", from()));
             tally.spoilt += 1;
         }

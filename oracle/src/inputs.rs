@@ -1,6 +1,7 @@
 //! Random parts of inputs over document 01's domain, with its extremes made likely; faults to put in; smaller parts.
 
 use crate::calls::*;
+use crate::outcome::nan;
 use crate::random::Random;
 use oracle::steps::{self, Board, Cache, Job};
 use std::cell::{OnceCell, RefCell, RefMut};
@@ -129,6 +130,23 @@ pub fn floats(random: &mut Random, len: usize, infinite: bool) -> Vec<f64> {
     }
 }
 
+/// NaNs of any sign and payload, quiet and signalling, in so many cells of a hundred.
+pub fn put_nans(random: &mut Random, plane: &mut [f64], percent: usize) {
+    for cell in plane {
+        if random.percent(percent) {
+            *cell = nan(random.next());
+        }
+    }
+}
+
+/// The same for a plane that the call checks: where it is refused by NUMBER or a lower number, they do not change that.
+pub fn put_nans_if_refused(random: &mut Random, plane: &mut [f64], refused: Option<Refusal>) {
+    if refused.is_some_and(|number| number <= NUMBER) {
+        let percent = random.pick(&[0, 10, 50, 100]);
+        put_nans(random, plane, percent);
+    }
+}
+
 // ---- faults
 
 pub fn spoil_side(random: &mut Random, side: &mut usize) {
@@ -184,7 +202,8 @@ pub fn spoil_cell<T: Copy>(random: &mut Random, plane: &mut [T], bad: &[T]) {
 }
 
 pub fn spoil_float(random: &mut Random, plane: &mut [f64]) {
-    let nan = f64::from_bits(0xfff8_0000_0000_0001);
+    // of a clone, so that no other draw moves
+    let nan = nan(random.clone().next());
     spoil_cell(random, plane, &[f64::NAN, nan, -1.0, -5e-324, f64::INFINITY, f64::NEG_INFINITY, f64::MIN]);
 }
 

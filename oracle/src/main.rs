@@ -236,7 +236,7 @@ fn meddles(steps: &[Named]) -> Vec<(String, &Named, Meddle)> {
 
 fn with_meddle(plan: &Plan, meddle: Meddle) -> Plan {
     // an input that is refused in any case shows nothing of a disturbed feed
-    let refusals = matches!(meddle, Meddle::Refusal | Meddle::RefusedWrite);
+    let refusals = matches!(meddle, Meddle::Refusal | Meddle::RefusedWrite | Meddle::Nan(..));
     Plan { meddle: Some(meddle), faults: refusals, random: plan.random, ..plan.clone() }
 }
 
@@ -303,6 +303,23 @@ mod tests {
         for (name, step, meddle) in meddles(&steps) {
             let plan = Plan { first_only: true, inputs: 300, ..with_meddle(&PLAN, meddle) };
             assert!((step.run)(&plan).differences > 0, "{name} is not seen");
+        }
+    }
+
+    /// The mutants do it before NUMBER; the faults that speak before that one must come with NaNs in the plane as well.
+    #[test]
+    fn a_nan_rewritten_before_a_lower_number_is_seen() {
+        for step in compare::all().iter().filter(|step| step.shows.floats) {
+            let own = match step.name {
+                "copy-f64" => None,
+                "lay-score" | "lift-score" => Some(calls::CELL),
+                _ => Some(calls::COUNT),
+            };
+            for number in [calls::SHAPE, calls::LENGTH].into_iter().chain(own) {
+                let meddle = Some(Meddle::Nan(number, compare::Rewrite::Plain));
+                let plan = Plan { meddle, first_only: true, inputs: 300, random: false, ..PLAN };
+                assert!((step.run)(&plan).differences > 0, "{} does not see it before {number}", step.name);
+            }
         }
     }
 

@@ -53,6 +53,14 @@ impl Plane {
         }
     }
 
+    /// For mutants: the bits of the first NaN.
+    pub fn nan(&mut self) -> Option<&mut u64> {
+        match self {
+            Plane::Floats(cells) => cells.iter_mut().find(|bits| f64::from_bits(**bits).is_nan()),
+            Plane::Bytes(_) | Plane::Words(_) => None,
+        }
+    }
+
     /// For mutants: one bit of one cell.
     pub fn flip(&mut self, at: usize) {
         match self {
@@ -133,49 +141,67 @@ pub struct Lent<T> {
 
 const GUARDS: usize = 24;
 
+/// A NaN whose sign, quiet bit and payload are those of any bits. A payload of 0 is made 1: it is that of an infinity, and
+/// of the NaNs that Rust and processors make.
+pub fn nan(bits: u64) -> f64 {
+    let payload = bits & ((1 << 51) - 1);
+    f64::from_bits(bits | 0x7ff0_0000_0000_0000 | u64::from(payload == 0))
+}
+
 /// Guard words are outside every bound, so that reading one shows as well.
 pub trait Guarded: Copy {
-    const GUARD: Self;
     /// for mutants
     const OTHER: Self;
+    fn guard(at: usize) -> Self;
     fn same(self, other: Self) -> bool;
 }
 
 impl Guarded for u8 {
-    const GUARD: u8 = 0xa5;
     const OTHER: u8 = 0xa4;
+    fn guard(_: usize) -> u8 {
+        0xa5
+    }
     fn same(self, other: u8) -> bool {
         self == other
     }
 }
 
 impl Guarded for u32 {
-    const GUARD: u32 = 0xfa5a_fa5a;
     const OTHER: u32 = 0xfa5a_fa5b;
+    fn guard(_: usize) -> u32 {
+        0xfa5a_fa5a
+    }
     fn same(self, other: u32) -> bool {
         self == other
     }
 }
 
 impl Guarded for i32 {
-    const GUARD: i32 = -0x5afa_5afa;
     const OTHER: i32 = -0x5afa_5afb;
+    fn guard(_: usize) -> i32 {
+        -0x5afa_5afa
+    }
     fn same(self, other: i32) -> bool {
         self == other
     }
 }
 
 impl Guarded for u64 {
-    const GUARD: u64 = 0xfa5a_fa5a_fa5a_fa5a;
     const OTHER: u64 = 0xfa5a_fa5a_fa5a_fa5b;
+    fn guard(_: usize) -> u64 {
+        0xfa5a_fa5a_fa5a_fa5a
+    }
     fn same(self, other: u64) -> bool {
         self == other
     }
 }
 
 impl Guarded for f64 {
-    const GUARD: f64 = f64::NAN;
-    const OTHER: f64 = f64::MIN;
+    const OTHER: f64 = f64::NAN;
+    /// NaNs of all sorts; the first, which is lent where a single float is answered, is negative and signalling.
+    fn guard(at: usize) -> f64 {
+        nan(0x9e37_79b9_7f4a_7c15_u64.wrapping_mul(at as u64 + 1))
+    }
     fn same(self, other: f64) -> bool {
         self.to_bits() == other.to_bits()
     }
@@ -203,8 +229,10 @@ pub fn set_damage(damage: Damage) {
 
 impl<T: Guarded> Lent<T> {
     pub fn new(plane: &[T]) -> Self {
-        let mut cells = vec![T::GUARD; plane.len() + 2 * GUARDS];
-        cells[GUARDS..GUARDS + plane.len()].copy_from_slice(plane);
+        let mut cells = Vec::with_capacity(plane.len() + 2 * GUARDS);
+        cells.extend((0..GUARDS).map(T::guard));
+        cells.extend_from_slice(plane);
+        cells.extend((GUARDS..2 * GUARDS).map(T::guard));
         // the port writes behind the compiler's back, so it may assume nothing of these cells
         Self { cells: black_box(cells), given: plane.to_vec() }
     }
@@ -227,7 +255,7 @@ impl<T: Guarded> Lent<T> {
             _ => {}
         }
         let cells = black_box(&self.cells);
-        cells[..GUARDS].iter().chain(&cells[end..]).all(|&cell| cell.same(T::GUARD))
+        cells[..GUARDS].iter().chain(&cells[end..]).enumerate().all(|(at, &cell)| cell.same(T::guard(at)))
     }
 
     /// Whether the guard words and the plane itself are as they were.
@@ -236,5 +264,21 @@ impl<T: Guarded> Lent<T> {
             self.cells[GUARDS] = T::OTHER;
         }
         self.guarded() && self.cells().iter().zip(&self.given).all(|(&cell, &given)| cell.same(given))
+    }
+}
+
+#[cfg(test)]
+mod tests {
+    use super::*;
+
+    #[test]
+    fn nans() {
+        for head in [0, 1 << 51, 1 << 63, 1 << 63 | 1 << 51] {
+            assert!([0, 1, 2].iter().all(|&payload| nan(head | payload).is_nan()));
+            assert_eq!(nan(head).to_bits(), 0x7ff0_0000_0000_0001 | head);
+            let guards = (0..2 * GUARDS).map(|at| f64::guard(at).to_bits());
+            assert!(guards.map(|bits| bits & (1 << 63 | 1 << 51)).any(|found| found == head));
+        }
+        assert_eq!(f64::guard(0).to_bits() >> 51, 0x1ffe);
     }
 }

@@ -186,11 +186,11 @@ const GUARDS: usize = 4;
 
 impl<T: Guarded, const N: usize> Out<T, N> {
     fn new() -> Self {
-        Self::with([T::GUARD; N])
+        Self::with(std::array::from_fn(T::guard))
     }
 
     fn with(cells: [T; N]) -> Self {
-        Self { before: [T::GUARD; GUARDS], cells, after: [T::GUARD; GUARDS] }
+        Self { before: std::array::from_fn(T::guard), cells, after: std::array::from_fn(T::guard) }
     }
 
     /// Into the whole, so that writing past the cells is seen and no more.
@@ -205,7 +205,6 @@ impl<T: Guarded, const N: usize> Out<T, N> {
     /// What came back.
     fn cells(self) -> [T; N] {
         let out = black_box(self);
-        let kept = |cells: &[T]| cells.iter().all(|cell| cell.same(T::GUARD));
         assert!(kept(&out.before) && kept(&out.after), "the port wrote past a slice lent for an answer");
         out.cells
     }
@@ -213,10 +212,14 @@ impl<T: Guarded, const N: usize> Out<T, N> {
     /// What came back from a call that only writes if it accepts.
     fn answered(self, refused: u32) -> [T; N] {
         let cells = self.cells();
-        let kept = cells.iter().all(|cell| cell.same(T::GUARD));
-        assert!(refused == 0 || kept, "a refused call wrote an answer");
+        assert!(refused == 0 || kept(&cells), "a refused call wrote an answer");
         cells
     }
+}
+
+/// Whether these are the guard words from the first one on.
+fn kept<T: Guarded>(cells: &[T]) -> bool {
+    cells.iter().enumerate().all(|(at, cell)| cell.same(T::guard(at)))
 }
 
 fn flag(number: impl Into<u64>) -> bool {
@@ -485,7 +488,8 @@ pub fn fitting_colours(
     assert_eq!(ask(nothing.ptr(), nothing.len()), refused, "with no word lent the answer is another");
     nothing.cells();
     let [colours, others @ ..] = found.answered(refused);
-    assert!(others.iter().all(|word| word.same(u64::GUARD)), "a listing wrote past its first word");
+    let kept = others.iter().enumerate().all(|(at, word)| word.same(u64::guard(1 + at)));
+    assert!(kept, "a listing wrote past its first word");
     answer(refused, colours)
 }
 

@@ -310,10 +310,12 @@ impl Input for BoardInput {
             | Step::Forced
             | Step::BoxedForced
             | Step::Scan
-            | Step::FittingColours => Shows { answer: true, planes: false, refusals: true, lends: true, reads: true },
+            | Step::FittingColours => {
+                Shows { answer: true, planes: false, floats: false, refusals: true, lends: true, reads: true }
+            }
             _ => {
                 let reads = !matches!(step, Step::Raise | Step::Lower | Step::Fresh);
-                Shows { answer: false, planes: true, refusals: true, lends: true, reads }
+                Shows { answer: false, planes: true, floats: step.scores(), refusals: true, lends: true, reads }
             }
         }
     }
@@ -507,6 +509,13 @@ impl Input for BoardInput {
                 _ => continue,
             }
             return;
+        }
+    }
+
+    fn lend_nans(&mut self, random: &mut Random) {
+        if self.step.scores() {
+            let refused = self.table();
+            inputs::put_nans_if_refused(random, &mut self.scores, refused);
         }
     }
 

@@ -24,9 +24,11 @@ pub struct CopyInput<T> {
 /// What the two copies have each for its own.
 pub trait Copied: Guarded + Copy + PartialEq + Debug {
     const NAME: &'static [(&'static str, u64, ())];
+    const FLOATS: bool;
     const PLAIN: Self;
     fn random(random: &mut Random, len: usize) -> Vec<Self>;
     fn spoil(random: &mut Random, plane: &mut [Self]);
+    fn lend_nans(random: &mut Random, target: &mut [Self]);
     fn refusal(input: &CopyInput<Self>) -> Option<Refusal>;
     fn by_text(plane: &[Self], sides: [usize; 2], pads: [usize; 4]) -> Vec<Self>;
     fn by_port(input: &CopyInput<Self>, plane: &[Self], target: &mut [Self]) -> Answer<()>;
@@ -35,11 +37,13 @@ pub trait Copied: Guarded + Copy + PartialEq + Debug {
 
 impl Copied for u32 {
     const NAME: &'static [(&'static str, u64, ())] = &[("copy-u32", 400, ())];
+    const FLOATS: bool = false;
     const PLAIN: u32 = 0;
     fn random(random: &mut Random, len: usize) -> Vec<u32> {
         (0..len).map(|_| random.pick(&[0, 1, 2, 7, u32::MAX, 4_000_000_001])).collect()
     }
     fn spoil(_: &mut Random, _: &mut [u32]) {}
+    fn lend_nans(_: &mut Random, _: &mut [u32]) {}
     fn refusal(input: &CopyInput<u32>) -> Option<Refusal> {
         refusals::copy_u32(&input.plane, input.rows, input.cols, input.pads, &input.target)
     }
@@ -56,12 +60,16 @@ impl Copied for u32 {
 
 impl Copied for f64 {
     const NAME: &'static [(&'static str, u64, ())] = &[("copy-f64", 400, ())];
+    const FLOATS: bool = true;
     const PLAIN: f64 = 0.0;
     fn random(random: &mut Random, len: usize) -> Vec<f64> {
         inputs::floats(random, len, true)
     }
     fn spoil(random: &mut Random, plane: &mut [f64]) {
         inputs::spoil_float(random, plane);
+    }
+    fn lend_nans(random: &mut Random, target: &mut [f64]) {
+        inputs::put_nans(random, target, 100);
     }
     fn refusal(input: &CopyInput<f64>) -> Option<Refusal> {
         refusals::copy_f64(&input.plane, input.rows, input.cols, input.pads, &input.target)
@@ -91,7 +99,7 @@ impl<T: Copied> CopyInput<T> {
     /// With a target of the length that the pads ask for.
     fn fitted(mut self) -> Self {
         let (rows, cols) = refusals::padded(self.rows, self.cols, self.pads);
-        self.target = vec![T::GUARD; rows.min(64) * cols.min(64)];
+        self.target = (0..rows.min(64) * cols.min(64)).map(T::guard).collect();
         self
     }
 }
@@ -102,7 +110,7 @@ impl<T: Copied> Input for CopyInput<T> {
     const STEPS: &'static [(&'static str, u64, ())] = T::NAME;
 
     fn shows(_: ()) -> Shows {
-        Shows { answer: false, planes: true, refusals: true, lends: true, reads: true }
+        Shows { answer: false, planes: true, floats: T::FLOATS, refusals: true, lends: true, reads: true }
     }
 
     fn random(_: (), random: &mut Random, _: &TileList) -> Self {
@@ -135,6 +143,10 @@ impl<T: Copied> Input for CopyInput<T> {
             4 => inputs::spoil_length(random, &mut self.target, T::PLAIN),
             _ => T::spoil(random, &mut self.plane),
         }
+    }
+
+    fn lend_nans(&mut self, random: &mut Random) {
+        T::lend_nans(random, &mut self.target);
     }
 
     fn disturb(&mut self, random: &mut Random) {

@@ -54,7 +54,7 @@ impl Input for ProbabilityInput {
         &[("normalise", 500, Step::Normalise), ("product", 200, Step::Product), ("quotient", 200, Step::Quotient)];
 
     fn shows(_: Step) -> Shows {
-        Shows { answer: false, planes: true, refusals: true, lends: true, reads: true }
+        Shows { answer: false, planes: true, floats: true, refusals: true, lends: true, reads: true }
     }
 
     fn random(step: Step, random: &mut Random, _: &TileList) -> Self {
@@ -76,7 +76,8 @@ impl Input for ProbabilityInput {
         let (mut block, mut out) = (Vec::new(), Vec::new());
         if step == Step::Normalise {
             radius = 0;
-            out = vec![f64::NAN; count as usize];
+            // its old contents are not read, and come with `lend_nans`
+            out = vec![0.0; count as usize];
         } else {
             if count > 4 && !random.percent(10) {
                 radius = radius.min(4);
@@ -116,6 +117,15 @@ impl Input for ProbabilityInput {
             10 => inputs::spoil_offset(random, &mut self.offset),
             11 => inputs::spoil_place(random, self.rows, self.cols, &mut self.world, self.offset),
             _ => inputs::spoil_wall(random, &mut self.world),
+        }
+    }
+
+    fn lend_nans(&mut self, random: &mut Random) {
+        if self.step == Step::Normalise {
+            inputs::put_nans(random, &mut self.out, 100);
+        } else {
+            let refused = self.refusal();
+            inputs::put_nans_if_refused(random, &mut self.probabilities, refused);
         }
     }
 

@@ -101,6 +101,7 @@ impl Input for QueueInput {
         Shows {
             answer: step != Step::Add,
             planes: matches!(step, Step::Add | Step::Take),
+            floats: false,
             refusals: true,
             lends: false,
             reads: false,

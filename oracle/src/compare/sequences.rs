@@ -154,7 +154,7 @@ impl Input for SequenceInput {
 
     /// A refusal is a call's answer here, and not the sequence's.
     fn shows(_: ()) -> Shows {
-        Shows { answer: true, planes: true, refusals: false, lends: true, reads: true }
+        Shows { answer: true, planes: true, floats: false, refusals: false, lends: true, reads: true }
     }
 
     fn random(_: (), random: &mut Random, tiles: &TileList) -> Self {

@@ -34,7 +34,7 @@ impl Input for ExtractInput {
     const STEPS: &'static [(&'static str, u64, ())] = &[("extract", 300, ())];
 
     fn shows(_: ()) -> Shows {
-        Shows { answer: true, planes: true, refusals: true, lends: true, reads: true }
+        Shows { answer: true, planes: true, floats: false, refusals: true, lends: true, reads: true }
     }
 
     fn random(_: (), random: &mut Random, _: &TileList) -> Self {
@@ -189,7 +189,14 @@ impl Input for TileInput {
         &[("rotate", 200, Step::Rotate), ("reflect", 200, Step::Reflect), ("membership", 400, Step::Membership)];
 
     fn shows(step: Step) -> Shows {
-        Shows { answer: true, planes: false, refusals: step == Step::Membership, lends: false, reads: false }
+        Shows {
+            answer: true,
+            planes: false,
+            floats: false,
+            refusals: step == Step::Membership,
+            lends: false,
+            reads: false,
+        }
     }
 
     fn random(step: Step, random: &mut Random, _: &TileList) -> Self {
