@@ -171,7 +171,7 @@ pub fn calculate_extension(
     })
 }
 
-pub fn constrained_extension(
+pub fn constrain_extension(
     rows: usize,
     cols: usize,
     offset: Offset,

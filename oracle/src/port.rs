@@ -23,7 +23,7 @@ unsafe extern "C" {
         rows: usize, cols: usize, offset_row: i32, offset_col: i32, row: i32, col: i32, radius: usize,
         pads: *mut u64, pads_len: usize, offset: *mut i32, offset_len: usize, needed: *mut u32, needed_len: usize,
     ) -> u32;
-    fn port_constrained_extension(
+    fn port_constrain_extension(
         rows: usize, cols: usize, offset_row: i32, offset_col: i32, row: i32, col: i32, radius: usize,
         min_row: i32, min_col: i32, max_row: i32, max_col: i32,
         pads: *mut u64, pads_len: usize, offset: *mut i32, offset_len: usize, needed: *mut u32, needed_len: usize,
@@ -279,7 +279,7 @@ pub fn calculate_extension(
     answer(refused, found).map(extension)
 }
 
-pub fn constrained_extension(
+pub fn constrain_extension(
     rows: usize,
     cols: usize,
     offset: Offset,
@@ -290,7 +290,7 @@ pub fn constrained_extension(
     let BoundingBox { min, max } = bounds;
     let (mut pads, mut new_offset, mut needed) = (Out::new(), Out::new(), Out::new());
     let refused = unsafe {
-        port_constrained_extension(
+        port_constrain_extension(
             rows, cols, offset.0, offset.1, world.0, world.1, radius, min.0, min.1, max.0, max.1, pads.ptr(),
             pads.len(), new_offset.ptr(), new_offset.len(), needed.ptr(), needed.len(),
         )

@@ -98,7 +98,7 @@ fn listing_program_planes() {
 fn extension_pads() {
     let plain = steps::extension([5, 5], [0, 0], [0, 0], 2);
     assert_eq!((plain.pads, plain.offset, plain.needed), ([2, 0, 2, 0], [2, 2], true));
-    let boxed = steps::constrained_extension([5, 5], [0, 0], [0, 0], 2, [-1, 0], [9, 9]);
+    let boxed = steps::constrain_extension([5, 5], [0, 0], [0, 0], 2, [-1, 0], [9, 9]);
     assert_eq!((boxed.pads, boxed.offset, boxed.needed), ([1, 0, 0, 0], [1, 0], true));
 }
 

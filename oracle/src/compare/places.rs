@@ -136,7 +136,7 @@ impl Input for PlaceInput {
                 extension_values(found.pads, found.offset, found.needed)
             }
             Step::BoxedExtension => {
-                let found = steps::constrained_extension([rows, cols], shift, place, radius, min, max);
+                let found = steps::constrain_extension([rows, cols], shift, place, radius, min, max);
                 extension_values(found.pads, found.offset, found.needed)
             }
         };
@@ -150,7 +150,7 @@ impl Input for PlaceInput {
             Step::Contains => side::contains(bounds, world).map(|inside| vec![Value::Whole(i64::from(inside))]),
             Step::Extension => side::calculate_extension(rows, cols, offset, world, radius).map(info_values),
             Step::BoxedExtension => {
-                side::constrained_extension(rows, cols, offset, world, radius, bounds).map(info_values)
+                side::constrain_extension(rows, cols, offset, world, radius, bounds).map(info_values)
             }
         };
         Outcome::new(answer, Vec::new())

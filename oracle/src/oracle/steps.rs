@@ -58,7 +58,7 @@ pub fn extension(sides: Sides, offset: Place, world: Place, radius: usize) -> Ex
     plain(&extension::calculate_extension(sides, offset, world, signed(radius)))
 }
 
-pub fn constrained_extension(
+pub fn constrain_extension(
     sides: Sides,
     offset: Place,
     world: Place,
