@@ -1,4 +1,4 @@
-/* A desk in small: a 3x4 board, the two chequer tiles, a piece laid, colours listed, the piece lifted. It asks after every answer, and
+/* A desk in miniature: a 3x4 board, the two chequer tiles, a piece laid, colours listed, the piece lifted. It checks every answer, and
  * compares the planes after the lift with those before the lay. */
 #include "desk.h"
 

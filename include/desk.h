@@ -1,32 +1,37 @@
 /* The desk's functions: fitting colours, lay and lift, for a C program.
  *
  * Build: `rt staticlib desk` proves the functions and writes target/staticlib/libdesk.a; link it, no other library is needed. It is for
- * x86-64 (System V calls, Linux) alone. The functions hold no state, allocate nothing, print nothing, and always come back.
+ * x86-64 (System V calls, Linux) alone. The functions hold no state, allocate nothing, print nothing, and always return.
  *
  * What a plan is: a board of cells, on which pieces of glass lie, and a list of 3x3 tiles that says which pieces may lie side by side. Three
  * planes of the same size hold it, row by row: cell (r, c) is entry r * cols + c.
- *   pieces        1 where the cell is bare, colour t as t + 1.
- *   weights       how many pieces lie near a cell: 1, plus 3 for each at most one cell away, plus 1 for each exactly two away. The scan for
- *                 dead ends looks at a bare cell only where its weight is above 1. Start: 1 everywhere.
- *   counts        how many tiles fit the 3x3 region that starts at a cell; where that region passes the edge, the number of all tiles.
- *                 Scores are made of it. Start: the number of tiles everywhere (tiles_len / 9).
- * A plan starts with pieces all 1, weights all 1 and counts as said. From then on lay and lift keep the three as the pieces say them; a
- * program that changes a plane by hand, or names other tiles, another size or another offset from one call to the next, gives that up, and
- * no call can tell.
+ *   pieces        1 where the cell is bare, t + 1 where a piece of colour t lies.
+ *   weights       a measure of how many pieces lie near a cell: 1, plus 3 for each piece at most one cell away, the cell's own included, plus
+ *                 1 for each exactly two away. Distance is the larger of row and column difference. The planner's scan for dead ends, which
+ *                 is not in this library, looks at a bare cell only where its weight is above 1. Start: 1 everywhere.
+ *   counts        how many tiles of the list fit the 3x3 region whose top left cell this is; where that region passes the edge, the number
+ *                 of all tiles. A tile that stands twice in the list counts twice. The planner's scores, which are not in this library, are
+ *                 made of it. Start: the number of tiles everywhere (tiles_len / 9).
+ * A plan starts with pieces all 1, weights all 1 and counts as said. From then on lay and lift keep the three as the pieces say them. A
+ * program that changes a plane by hand, or names other tiles or another size from one call to the next, gives that up, and the calls need
+ * not notice; with another offset the same place is another cell.
  *
  * What all three functions take
  *   rows, cols    the sides of the board, 1 to 64 each. Each plane has exactly rows * cols entries, and its _len says so.
  *   tiles         nine bytes a tile, row by row: a colour, or 0 for unknown. 1 to 7,200 tiles; tiles_len is in bytes. A 0 equals no piece:
- *                 a tile does not fit where a piece lies on its 0, and its 0 lists no colour.
- *   count         the number of colours, 1 to 30.
- *   row, col      the place, in wall coordinates, -1,000,000 to 1,000,000 each.
- *   down, across  the offset, -999,937 to 1,000,000 each: the cell is (row + down, col + across).
+ *                 a tile fits only where its 0 cells are bare, and a 0 lists no colour.
+ *   count         the number of colours, 1 to 30. It may differ from call to call, but a count below a colour that stands in pieces or
+ *                 tiles is refused with CELL.
+ *   row, col      the place, in wall coordinates, counted from the job's origin, -1,000,000 to 1,000,000 each.
+ *   down, across  the offset, -999,937 to 1,000,000 each: the cell is (row + down, col + across). With 0 and 0
+ *                 a place names its cell directly.
  * A slice is a pointer and its number of ELEMENTS. Every value of every argument is answered, by 0 or by a refusal's number; NULL with
- * length 0 is a slice like any other and is not followed. What cannot be checked from inside: a pointer must lead to as many elements as
- * its length says and be aligned as C aligns its type (4 bytes for uint32_t, 8 for uint64_t, any for uint8_t; nothing beyond that), and a
- * slice that is changed must not overlap another one.
+ * length 0 is allowed and never dereferenced. What cannot be checked from inside: a pointer must point to as many elements as its length
+ * says and be aligned as C aligns its type (4 bytes for uint32_t, 8 for uint64_t, any for uint8_t; nothing beyond that), and a slice that is
+ * changed must not overlap another one.
  *
- * What all three give back: 0, or the lowest refusal number that holds. A refused call changes no memory at all.
+ * What all three give back: 0, or the lowest refusal number that holds (5 and 10 belong to functions that are not here). A refused call
+ * changes no memory at all.
  */
 #ifndef DESK_H
 #define DESK_H
@@ -41,35 +46,36 @@ extern "C" {
 enum desk_refusal {
     DESK_DONE = 0,
     DESK_SHAPE = 1,  /* a side of the board is out of bounds */
-    DESK_LENGTH = 2, /* a plane has not rows * cols entries; the tiles are not 1 to 7,200 whole ones */
+    DESK_LENGTH = 2, /* a plane does not have rows * cols entries; the tiles are not 1 to 7,200 whole ones */
     DESK_COUNT = 3,  /* count is out of bounds */
-    DESK_CELL = 4,   /* a tile cell above count; a piece 0 or above count + 1; a weight above 4,000,000,000; a count above the tiles */
+    DESK_CELL = 4,   /* a tile cell above count; a piece 0 or above count + 1; a weight above 4,000,000,000; an entry of counts above the number of tiles */
     DESK_PLACE = 6,  /* a coordinate or the offset is out of bounds, or the cell is off the board */
     DESK_TYPE = 7,   /* the colour to lay is 0 or above count */
     DESK_TAKEN = 8,  /* lay where a piece stands */
     DESK_BARE = 9    /* lift where none stands */
 };
 
-/* The colours that fit at a place. The nine 3x3 windows that hold the cell are looked at, but those that would start above or left of the
- * board; those past its bottom or right edge count too, and are bare there. A colour fits if each of these windows has a tile that equals
- * the pieces that lie there, the cell's own too, and has that colour at the cell.
+/* The colours that fit at a place. The nine 3x3 windows that hold the cell are looked at, except those that would start above or left of
+ * the board; windows that reach past the bottom or right edge count too, and past the edge they are bare. A colour fits if each of these
+ * windows has a tile that equals the pieces that lie there, the cell's own too, and has that colour at the cell.
  * Reads all of pieces and tiles. found is written: its first entry gets the set, bit t-1 for colour t (found[0] == 0: no colour fits).
- * Lend one entry; further ones are left alone today and are kept for what a listing may tell later. With found_len 0 nothing is stored.
+ * Lend one entry; further ones are left alone today and are reserved for what a listing may tell later. With found_len 0 nothing is stored.
  * Refusals: SHAPE, LENGTH, COUNT, CELL, PLACE. */
 uint32_t desk_fitting_colours(const uint32_t *pieces, size_t pieces_len, size_t rows, size_t cols, const uint8_t *tiles, size_t tiles_len,
                               uint32_t count, int32_t row, int32_t col, int32_t down, int32_t across, uint64_t *found, size_t found_len);
 
 /* Lays a piece of a colour (1 to count) on a bare cell. Whether the colour fits there is NOT asked: desk_fitting_colours tells that, and a
  * colour that it does not list is laid all the same.
- * Reads all planes and tiles. Writes the cell's piece; adds 3 to the weights at distance 0 or 1 of it and 1 at distance 2 (distance: the
- * larger of row and column difference); and counts anew the regions that start within distance 2 and lie whole on the board.
+ * Reads all planes and tiles. Writes the cell's piece; adds 3 to the weights at distance 0 or 1 of it and 1 at distance 2; and counts anew the
+ * regions that start within distance 2 and lie whole on the board.
  * Refusals: SHAPE, LENGTH, COUNT, CELL, PLACE, TYPE, TAKEN. */
 uint32_t desk_lay(uint32_t *pieces, size_t pieces_len, uint32_t *weights, size_t weights_len, uint32_t *counts, size_t counts_len,
                   size_t rows, size_t cols, const uint8_t *tiles, size_t tiles_len, uint32_t count, int32_t row, int32_t col, int32_t down,
                   int32_t across, uint32_t colour);
 
-/* Lifts the piece at a place, whatever its colour: the planes are then as if it had never lain there (docs/ANSWER.md says from which boards
- * that is so). Takes from the weights what lay added, stopping at 0, and counts the same regions anew.
+/* Lifts the piece at a place, whatever its colour. If the plan began as above and only lay and lift changed it, the planes are then as if
+ * the piece had never lain there (docs/ANSWER.md has the theorem).
+ * Reads all planes and tiles. Stores 1 in the cell, takes from the weights what lay added, stopping at 0, and counts the same regions anew.
  * Refusals: SHAPE, LENGTH, COUNT, CELL, PLACE, BARE. */
 uint32_t desk_lift(uint32_t *pieces, size_t pieces_len, uint32_t *weights, size_t weights_len, uint32_t *counts, size_t counts_len,
                    size_t rows, size_t cols, const uint8_t *tiles, size_t tiles_len, uint32_t count, int32_t row, int32_t col,

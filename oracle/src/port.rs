@@ -127,7 +127,7 @@ unsafe extern "C" {
         rows: usize, cols: usize, number: usize,
     ) -> u32;
 
-    // the desk's own functions, as include/desk.h has them; found: the set in the first word, further words are left alone
+    // the desk's own functions, as include/desk.h has them; found: the set in the first entry, further ones are left alone
     fn desk_fitting_colours(
         pieces: *const u32, pieces_len: usize, rows: usize, cols: usize, tiles: *const u8, tiles_len: usize, count: u32,
         row: i32, col: i32, down: i32, across: i32, found: *mut u64, found_len: usize,
@@ -467,7 +467,7 @@ pub fn listing(
     answer(refused, set(out))
 }
 
-/// The desk's listing. Three words are lent, and then none: the first alone may be written, and the answer is the same.
+/// The desk's listing. Three entries are lent, and then none: the first alone may be written, and the answer is the same.
 pub fn fitting_colours(
     pieces: &[u32],
     rows: usize,
@@ -485,11 +485,11 @@ pub fn fitting_colours(
     };
     let (mut found, mut nothing) = (Out::<u64, 3>::new(), Out::<u64, 0>::new());
     let refused = ask(found.ptr(), found.len());
-    assert_eq!(ask(nothing.ptr(), nothing.len()), refused, "with no word lent the answer is another");
+    assert_eq!(ask(nothing.ptr(), nothing.len()), refused, "with no entry lent the answer is another");
     nothing.cells();
     let [colours, others @ ..] = found.answered(refused);
     let kept = others.iter().enumerate().all(|(at, word)| word.same(u64::guard(1 + at)));
-    assert!(kept, "a listing wrote past its first word");
+    assert!(kept, "a listing wrote past its first entry");
     answer(refused, colours)
 }
 

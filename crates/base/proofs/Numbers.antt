@@ -16,14 +16,14 @@ use Rattle.base.proofs.Bools.{and-left, and-right, and-both, and-no-lef
 pub cell-lt : {r c rows cols : ℕ} → r < rows → c < cols → r * cols + c < rows * cols
 cell-lt h k = digits-lt h k
 
--- the row and the column of a cell's number
+-- the row and the column of a cell's entry
 pub row-of : (r : ℕ) {c cols : ℕ} → c < cols → (r * cols + c) / cols ≡ r
 row-of r {c} {cols} h = digits-div r {m = cols} {r = c} h
 
 pub col-of : (r : ℕ) {c cols : ℕ} → c < cols → (r * cols + c) % cols ≡ c
 col-of r {c} {cols} h = digits-mod r {m = cols} {r = c} h
 
--- a cell's number is its row times the columns, and its column
+-- a cell's entry is its row times the columns, and its column
 pub cell-is : (k cols : ℕ) → k / cols * cols + k % cols ≡ k
 cell-is k cols = div-add-mod' k cols
 

@@ -19,7 +19,7 @@ use Rattle.rules.specs.declared.Cell.{Cell}
 use Rattle.rules.specs.declared.Span.{Span}
 use Rattle.board_near.specs.Near.{OnPlane, Nearby}
 
--- the distance on the flat board from a cell to the one with the number k
+-- the distance on the flat board from a cell to the one of entry k
 pub apart-is : (rows cols : ℕ) (cell : Cell) (k : ℕ) → cell .1 < cols → flat rows cols .apart (entryOf cols cell) k ≡ distance cell (cellWith cols k)
 unfolding flat
 apart-is rows cols cell k h = rw (row-of (cell .0) {c = cell .1} {cols = cols} h, col-of (cell .0) {c = cell .1} {cols = cols} h)

@@ -26,7 +26,7 @@ numbered-at {W = W} {O = O} number promise {w = w} {p = p} {a = a} {left = left}
 abbrev pub Decides : {A B : Type 0} → (A → B → Type 0) → Type 0
 Decides {A = A} {B = B} promise = (a c : A) (l m : B) → promise a l → promise c m → (a ≡ c) × (l ≡ m)
 
--- those that meet a promise of an answer and of what is left, and of the number of a call's answer where those of the call's own do
+-- a promise that fixes the answer and what is left decides; so does one of the number of a call's answer, where the call's own promise does
 pub gives-decides : {A B : Type 0} (answer : A) (left : B) → Decides (Gives answer left)
 gives-decides answer left a c l m x y = gives-coincide x y
 

@@ -10,8 +10,8 @@ use boundary_slots::put_long;
 use boundary_slots::world_at;
 use rules::Listing;
 
-// The set goes over as one word of 64 bits, so that sets to 64 colours leave the C side as it is; further words are for what a listing may
-// tell one day beside its colours.
+// The set goes over in one entry of 64 bits, so that sets of up to 64 colours leave the C side as it is; further entries are for what a
+// listing may tell one day beside its colours.
 fn found_colours(answer: Listing, found: &mut [u64]) -> u32
     ensures { λ r. ⌜ TellsColours answer (before found) r (after found) ⌝ }
 {

@@ -1,5 +1,5 @@
 -- What a call that has made the checks has of a cell's listing, for forced neighbours and the scan.
---     never-refused    a listing that is a set is no refusal: the other way of a `let .. else` on it is never gone
+--     never-refused    a listing that is a set is no refusal: the `else` of a `let .. else` on it is never taken
 --     listing-says     what is said of the colours of the set, in any number of bits, is said of the colours listed
 -- Assumes nothing.
 use Prim.Native.Nat.{ℕ, _^_, _<_}

@@ -20,7 +20,7 @@ pub record Roundable (pieces : List ℕ) (rows cols : ℕ) (tiles : List ℕ) (c
   pub ready : Ready pieces rows cols tiles count
   pub walled : onWall place ≡ true
 
--- the eight neighbours row by row, by their places in the 3x3; the place itself is 4
+-- the eight neighbours row by row, by their numbers in the 3x3; the place itself is 4
 abbrev pub roundOrder : List ℕ
 roundOrder = 0 ∷ 1 ∷ 2 ∷ 3 ∷ 5 ∷ 6 ∷ 7 ∷ 8 ∷ []
 

@@ -26,7 +26,7 @@ use rules::Listing;
 use rules::Offset;
 use rules::World;
 
-// The eight neighbours row by row, by their places in the 3x3; the place itself is 4.
+// The eight neighbours row by row, by their numbers in the 3x3; the place itself is 4.
 const ROUND_ORDER: [usize; rules::ADDED_ROOM] = [0, 1, 2, 3, 5, 6, 7, 8];
 
 fn round_place(i: usize) -> usize
@@ -45,7 +45,7 @@ fn beside(coordinate: i32, step: usize) -> i32
     coordinate + step as i32 - 1
 }
 
-// The place d of the 3x3 round a place. It may lie off the wall, where no cell has its index.
+// The neighbour with number d in the 3x3 round a place. It may lie off the wall, where no cell has its index.
 fn neighbour_at(place: World, d: usize) -> World
     requires { ⌜ onWall place ≡ true ⌝ }
     requires { ⌜ d < 9 ⌝ }

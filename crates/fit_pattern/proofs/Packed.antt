@@ -1,8 +1,8 @@
 -- Cells read as one number: equal exactly if they are equal cell by cell; `&` goes cell by cell. So a window and a tile, each read as one
 -- number, compare as the fit test does.
---     word-ext, word-lt, word-join, word-none    the number of some cells
+--     packed-ext, packed-lt, packed-join, packed-none    the number of some cells
 --     pair-is, joined, from-first    the cells of a list from one on
---     word-eq, and-word    comparison and `&`
+--     packed-eq, and-packed    comparison and `&`
 --     masked-fits    the fit test; left-there, ninth-decides its two ways
 -- Assumes nothing.
 use Prim.Native.Nat.{ℕ, zero, suc, _+_, _*_, _/_, _%_, _^_, _<_}
@@ -23,27 +23,27 @@ use Rattle.base.proofs.Counted.{every-ext}
 use Rattle.rules.specs.Fit.{agrees, agreesAt, fitsTile}
 use Rattle.fit_pattern.specs.Packed.{shownBy, cellsFrom, packed, maskOf, Cells, Masked}
 
-pub word-ext : (n : ℕ) (f g : ℕ → ℕ) → ((i : ℕ) → i < n → f i ≡ g i) → packed n f ≡ packed n g
+pub packed-ext : (n : ℕ) (f g : ℕ → ℕ) → ((i : ℕ) → i < n → f i ≡ g i) → packed n f ≡ packed n g
 unfolding packed
-word-ext zero f g h = refl
-word-ext (suc n) f g h = rw (h n (lt-suc-self n), word-ext n f g (λ i l. h i (le-step l)))
+packed-ext zero f g h = refl
+packed-ext (suc n) f g h = rw (h n (lt-suc-self n), packed-ext n f g (λ i l. h i (le-step l)))
 
 power : (n : ℕ) → 256 * 2 ^ (8 * n) ≡ 2 ^ (8 * suc n)
 power n = sym (pow-add 2 8 (8 * n)) ∙ ap (λ (k : ℕ). 2 ^ k) (omega arith)
 
-pub word-lt : (n : ℕ) (f : ℕ → ℕ) → ((i : ℕ) → i < n → f i < 256) → packed n f < 2 ^ (8 * n)
+pub packed-lt : (n : ℕ) (f : ℕ → ℕ) → ((i : ℕ) → i < n → f i < 256) → packed n f < 2 ^ (8 * n)
 unfolding packed
-word-lt zero f h = omega arith
-word-lt (suc n) f h = subst (λ (p : ℕ). f n * 2 ^ (8 * n) + packed n f < p) (power n) (digits-lt (h n (lt-suc-self n)) (word-lt n f (λ i l. h i (le-step l))))
+packed-lt zero f h = omega arith
+packed-lt (suc n) f h = subst (λ (p : ℕ). f n * 2 ^ (8 * n) + packed n f < p) (power n) (digits-lt (h n (lt-suc-self n)) (packed-lt n f (λ i l. h i (le-step l))))
 
-pub word-join : (m n : ℕ) (f : ℕ → ℕ) → packed (m + n) f ≡ packed n (λ i. f (m + i)) * 2 ^ (8 * m) + packed m f
+pub packed-join : (m n : ℕ) (f : ℕ → ℕ) → packed (m + n) f ≡ packed n (λ i. f (m + i)) * 2 ^ (8 * m) + packed m f
 unfolding packed
-word-join m zero f = ap (λ (k : ℕ). packed k f) (add-zero m) ∙ omega arith
-word-join m (suc n) f =
+packed-join m zero f = ap (λ (k : ℕ). packed k f) (add-zero m) ∙ omega arith
+packed-join m (suc n) f =
     ap (λ (k : ℕ). packed k f) (add-suc m n)
     ∙ ap₂ (λ (a b : ℕ). f (m + n) * a + b)
     (ap (λ (k : ℕ). 2 ^ k) (let e : 8 * (m + n) ≡ 8 * n + 8 * m = omega arith in e) ∙ pow-add 2 (8 * n) (8 * m))
-    (word-join m n f)
+    (packed-join m n f)
     ∙ gather (f (m + n)) (2 ^ (8 * n)) (2 ^ (8 * m)) (packed n (λ i. f (m + i))) (packed m f)
   where
     gather : (a p q b d : ℕ) → a * (p * q) + (b * q + d) ≡ (a * p + b) * q + d
@@ -58,16 +58,16 @@ pub joined : (m n : ℕ) (cells : List ℕ) (at : ℕ) {high low : ℕ} → high
     → high * 2 ^ (8 * m) + low ≡ packed (m + n) (cellsFrom cells at)
 joined m n cells at p q =
     rw (p, q)
-    (ap (λ (x : ℕ). x * 2 ^ (8 * m) + packed m (cellsFrom cells at)) (word-ext n _ _ (λ i l. ap (λ (k : ℕ). getD cells k 0) (add-assoc at m i)))
-    ∙ sym (word-join m n (cellsFrom cells at)))
+    (ap (λ (x : ℕ). x * 2 ^ (8 * m) + packed m (cellsFrom cells at)) (packed-ext n _ _ (λ i l. ap (λ (k : ℕ). getD cells k 0) (add-assoc at m i)))
+    ∙ sym (packed-join m n (cellsFrom cells at)))
 
 pub from-first : (n : ℕ) (cells : List ℕ) → packed n (cellsFrom cells 0) ≡ packed n (shownBy cells)
-from-first n cells = word-ext n _ _ (λ i l. ap (λ (k : ℕ). getD cells k 0) (zero-add i))
+from-first n cells = packed-ext n _ _ (λ i l. ap (λ (k : ℕ). getD cells k 0) (zero-add i))
 
-pub word-none : (n : ℕ) → packed n (λ i. 0) ≡ 0
+pub packed-none : (n : ℕ) → packed n (λ i. 0) ≡ 0
 unfolding packed
-word-none zero = refl
-word-none (suc n) = omega (arith, word-none n)
+packed-none zero = refl
+packed-none (suc n) = omega (arith, packed-none n)
 
 digit-eq : (p a b r s : ℕ) → r < p → s < p → eqb (a * p + r) (b * p + s) ≡ (eqb r s && eqb a b)
 digit-eq p a b r s l m = same-test _ _ from to
@@ -83,21 +83,21 @@ digit-eq p a b r s l m = same-test _ _ from to
     to e =
         eq-eqb _ _ (ap₂ (λ (x y : ℕ). x * p + y) (eqb-true a b (and-right (eqb r s) (eqb a b) e)) (eqb-true r s (and-left (eqb r s) (eqb a b) e)))
 
-pub word-eq : (n : ℕ) (f g : ℕ → ℕ) → ((i : ℕ) → i < n → f i < 256) → ((i : ℕ) → i < n → g i < 256)
+pub packed-eq : (n : ℕ) (f g : ℕ → ℕ) → ((i : ℕ) → i < n → f i < 256) → ((i : ℕ) → i < n → g i < 256)
     → eqb (packed n f) (packed n g) ≡ every n (λ i. eqb (f i) (g i))
 unfolding packed every
-word-eq zero f g h k = refl
-word-eq (suc n) f g h k =
-    digit-eq (2 ^ (8 * n)) (f n) (g n) (packed n f) (packed n g) (word-lt n f (λ i l. h i (le-step l))) (word-lt n g (λ i l. k i (le-step l)))
-    ∙ ap (λ (b : Bool). b && eqb (f n) (g n)) (word-eq n f g (λ i l. h i (le-step l)) (λ i l. k i (le-step l)))
+packed-eq zero f g h k = refl
+packed-eq (suc n) f g h k =
+    digit-eq (2 ^ (8 * n)) (f n) (g n) (packed n f) (packed n g) (packed-lt n f (λ i l. h i (le-step l))) (packed-lt n g (λ i l. k i (le-step l)))
+    ∙ ap (λ (b : Bool). b && eqb (f n) (g n)) (packed-eq n f g (λ i l. h i (le-step l)) (λ i l. k i (le-step l)))
 
-pub and-word : (n : ℕ) (f g : ℕ → ℕ) → ((i : ℕ) → i < n → f i < 256) → ((i : ℕ) → i < n → g i < 256)
+pub and-packed : (n : ℕ) (f g : ℕ → ℕ) → ((i : ℕ) → i < n → f i < 256) → ((i : ℕ) → i < n → g i < 256)
     → bitAnd (packed n f) (packed n g) ≡ packed n (λ i. bitAnd (f i) (g i))
 unfolding packed
-and-word zero f g h k = and-zero-l 0
-and-word (suc n) f g h k =
-    and-block (8 * n) (f n) (g n) (packed n f) (packed n g) (word-lt n f (λ i l. h i (le-step l))) (word-lt n g (λ i l. k i (le-step l)))
-    ∙ ap (λ (x : ℕ). bitAnd (f n) (g n) * 2 ^ (8 * n) + x) (and-word n f g (λ i l. h i (le-step l)) (λ i l. k i (le-step l)))
+and-packed zero f g h k = and-zero-l 0
+and-packed (suc n) f g h k =
+    and-block (8 * n) (f n) (g n) (packed n f) (packed n g) (packed-lt n f (λ i l. h i (le-step l))) (packed-lt n g (λ i l. k i (le-step l)))
+    ∙ ap (λ (x : ℕ). bitAnd (f n) (g n) * 2 ^ (8 * n) + x) (and-packed n f g (λ i l. h i (le-step l)) (λ i l. k i (le-step l)))
 
 mask-lt : (b : Bool) → pick b 0 255 < 256
 mask-lt true = omega arith
@@ -139,8 +139,8 @@ masked-fits tiles window mask n k low = ap₂ _&&_ eight (at 8 (omega arith))
     eight : eqb (bitAnd (packed 8 (cellsFrom tiles (n * 9))) (packed 8 (shownBy mask))) (packed 8 (shownBy window))
         ≡ every 8 (agreesAt tiles (shownBy window) n)
     eight =
-        ap (λ (x : ℕ). eqb x (packed 8 (shownBy window))) (and-word 8 (cellsFrom tiles (n * 9)) (shownBy mask) (λ i l. low (n * 9 + i)) small)
-        ∙ word-eq 8 _ _ (λ i l. and-lt 8 (cellsFrom tiles (n * 9) i) (shownBy mask i) (low (n * 9 + i)) (small i l)) (λ i l. k .cells .low i (omega arith))
+        ap (λ (x : ℕ). eqb x (packed 8 (shownBy window))) (and-packed 8 (cellsFrom tiles (n * 9)) (shownBy mask) (λ i l. low (n * 9 + i)) small)
+        ∙ packed-eq 8 _ _ (λ i l. and-lt 8 (cellsFrom tiles (n * 9) i) (shownBy mask i) (low (n * 9 + i)) (small i l)) (λ i l. k .cells .low i (omega arith))
         ∙ every-ext _ _ 8 (λ i l. at i (omega arith))
 
 -- eight cells and the ninth are all 0
@@ -148,8 +148,8 @@ pub bare-cells : (window : List ℕ) → Cells window → (eqb (packed 8 (shownB
 unfolding every
 bare-cells window k =
     ap (λ (b : Bool). b && eqb (shownBy window 8) 0)
-    (ap (λ (z : ℕ). eqb (packed 8 (shownBy window)) z) (sym (word-none 8))
-    ∙ word-eq 8 (shownBy window) (λ i. 0) (λ i l. k .low i (omega arith)) (λ i l. omega arith))
+    (ap (λ (z : ℕ). eqb (packed 8 (shownBy window)) z) (sym (packed-none 8))
+    ∙ packed-eq 8 (shownBy window) (λ i. 0) (λ i l. k .low i (omega arith)) (λ i l. omega arith))
 
 -- a tile that differs within the first eight cells does not fit; where it does not differ there, the ninth decides
 pub left-there : (tiles window mask : List ℕ) (n : ℕ) → Masked window mask → ((i : ℕ) → getD tiles i 0 < 256)

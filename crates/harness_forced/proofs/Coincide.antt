@@ -7,7 +7,6 @@ use lib.IntN.{ℤ}
 use denote.Ref.{RefT}
 use Rattle.base.proofs.Chain.{gives-coincide}
 use Rattle.rules.specs.Forced.{queueEmpty, queueLength}
-use Rattle.rules.specs.Promises.{before}
 use Rattle.boundary.specs.Boundary.{TellsVerdict, TellsCount}
 use Rattle.harness_forced.specs.Slices.{queueFrom, PortForces, PortAdds, PortTakes, slices, taking}
 use Rattle.rules.specs.declared.World.{World}
@@ -24,7 +23,8 @@ pub port-queue-len-coincide : (coordinates : List ℤ) (colours : List ℕ) (len
     → Decides (TellsCount (queueLength (queueFrom coordinates colours len)) out)
 port-queue-len-coincide coordinates colours len out = gives-decides _ _
 
--- the queue's slices before the call, and as each of the two calls leaves them
+-- the slices before the call, and as each of the two calls leaves them; a place, an offset, bounds and an added list of any value stand where
+-- the contracts have those of their arguments
 module _ (coordinates coordinates₁ coordinates₂ : RefT (List ℤ)) (colours colours₁ colours₂ len len₁ len₂ : RefT (List ℕ)) {r s : ℕ} where
   pub port-forced-coincide : (pieces : List ℕ) (rows cols : ℕ) (tiles : List ℕ) (count : ℕ) (place : World) (offset : Offset) (bounds : GenerationBounds)
       → PortForces pieces rows cols tiles count place offset bounds (lent coordinates coordinates₁) (lent colours colours₁) (lent len len₁) r

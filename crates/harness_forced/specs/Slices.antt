@@ -1,5 +1,5 @@
 -- Queues and forced positions as slices: entry i has its row and column at 2i and 2i + 1 of the coordinates and its colour at i of the
--- colours; the length is a word of its own. An element that a slice does not have counts as 0, and nothing is stored past an end. The
+-- colours; the length is a slice of its own. An element that a slice does not have counts as 0, and nothing is stored past an end. The
 -- promises of functions that change such slices take them as they are lent, for what they hold before and after.
 use Prim.Native.Nat.{ℕ, zero, suc, _+_, _*_}
 use mathlib.Core.Bool.{Bool}
@@ -150,6 +150,6 @@ abbrev pub forcedLeft : ForcedAnswer → Slices → Slices
 forcedLeft a s = foundLeft (a .refused) (a .found) s
 
 abbrev pub PortForces : List ℕ → ℕ → ℕ → List ℕ → ℕ → World → Offset → GenerationBounds → Lent (List ℤ) → Lent (List ℕ) → Lent (List ℕ) → ℕ → Type 0
-PortForces pieces rows cols tiles count w o bounds coordinates colours len r =
-    let answer = forcedNeighbours flat pieces rows cols tiles count w o bounds in
+PortForces pieces rows cols tiles count place offset bounds coordinates colours len r =
+    let answer = forcedNeighbours flat pieces rows cols tiles count place offset bounds in
     Gives (answer .refused) (forcedLeft answer (slicesBefore coordinates colours len)) r (slicesAfter coordinates colours len)

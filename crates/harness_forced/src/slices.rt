@@ -82,12 +82,12 @@ pub fn positions_from(coordinates: &[i32], colours: &[u32], len: usize) -> Force
     ForcedPositions { entries, len }
 }
 
-// The word that holds a length; 0 where there is none.
-pub fn length_at(words: &[u64]) -> usize
-    ensures { λ r. ⌜ r ≡ getD (before words) 0 0 ⌝ }
+// The entry that holds a length; 0 where there is none.
+pub fn length_at(longs: &[u64]) -> usize
+    ensures { λ r. ⌜ r ≡ getD (before longs) 0 0 ⌝ }
 {
-    if 0 < words.len() {
-        return words[0] as usize;
+    if 0 < longs.len() {
+        return longs[0] as usize;
     }
     0
 }

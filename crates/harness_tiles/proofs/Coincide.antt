@@ -8,11 +8,11 @@ use lib.IntN.{ℤ}
 use lib.Ieee.{Float}
 use denote.Ref.{RefT}
 use Rattle.base.proofs.Chain.{coincide, gives-coincide}
-use Rattle.rules.specs.Places.{boxContains}
+use Rattle.rules.specs.Places.{boxContains, extensionOf, boxedExtension}
 use Rattle.rules.specs.Sets.{membersListed}
 use Rattle.rules.specs.Tiles.{rotated, reflected, membership}
-use Rattle.rules.specs.Promises.{before, CopiesWords, CopiesFloats}
-use Rattle.boundary_slots.specs.Slots.{world, setFrom}
+use Rattle.rules.specs.Promises.{CopiesWords, CopiesFloats}
+use Rattle.boundary_slots.specs.Slots.{world, offsetBy, setFrom}
 use Rattle.boundary.specs.Boundary.{Numbered, writtenNumber, TellsSet, TellsVerdict}
 use Rattle.harness_tiles.specs.Lent.{boxOf, padsBy, nineOf, putFrom, TellsExtension, TellsMembers, PortExtracts, extended, bytesWith}
 use Rattle.rules.specs.declared.ExtensionAnswer.{ExtensionAnswer}
@@ -39,12 +39,24 @@ port-reflect-coincide tile out = coincide
 pub port-membership-coincide : (tile : List ℕ) (count : ℕ) (out : List ℕ) → Decides (TellsSet (membership (nineOf tile) count) out)
 port-membership-coincide tile count out = gives-decides _ _
 
--- both exports that tell an extension: the slices before the call, and as each of the two calls leaves them
-pub extension-coincide : (answer : ExtensionAnswer) (pads pads₁ pads₂ : RefT (List ℕ)) (offset offset₁ offset₂ : RefT (List ℤ)) (needed needed₁ needed₂ : RefT (List ℕ))
-    {r s : ℕ} → TellsExtension answer (lent pads pads₁) (lent offset offset₁) (lent needed needed₁) r
+-- two results that tell this extension coincide: the slices before the call, and as each of the two calls leaves them
+abbrev Extends : ExtensionAnswer → Type 0
+Extends answer =
+    (pads pads₁ pads₂ : RefT (List ℕ)) (offset offset₁ offset₂ : RefT (List ℤ)) (needed needed₁ needed₂ : RefT (List ℕ)) (r s : ℕ)
+    → TellsExtension answer (lent pads pads₁) (lent offset offset₁) (lent needed needed₁) r
     → TellsExtension answer (lent pads pads₂) (lent offset offset₂) (lent needed needed₂) s
     → (r ≡ s) × (extended (pads₁ .now) (offset₁ .now) (needed₁ .now) ≡ extended (pads₂ .now) (offset₂ .now) (needed₂ .now))
-extension-coincide answer pads pads₁ pads₂ offset offset₁ offset₂ needed needed₁ needed₂ = gives-coincide
+
+extends : (answer : ExtensionAnswer) → Extends answer
+extends answer pads pads₁ pads₂ offset offset₁ offset₂ needed needed₁ needed₂ r s p q = gives-coincide p q
+
+pub port-calculate-extension-coincide : (rows cols : ℕ) (down across row col : ℤ) (radius : ℕ)
+    → Extends (extensionOf rows cols (offsetBy down across) (world row col) radius)
+port-calculate-extension-coincide rows cols down across row col radius = extends _
+
+pub port-constrain-extension-coincide : (rows cols : ℕ) (down across row col : ℤ) (radius : ℕ) (minrow mincol maxrow maxcol : ℤ)
+    → Extends (boxedExtension rows cols (offsetBy down across) (world row col) radius (boxOf minrow mincol maxrow maxcol))
+port-constrain-extension-coincide rows cols down across row col radius minrow mincol maxrow maxcol = extends _
 
 pub port-set-to-vec-coincide : (bits size : ℕ) (colours colours₁ colours₂ len len₁ len₂ : RefT (List ℕ)) {r s : ℕ}
     → TellsMembers (membersListed (setFrom bits size)) (lent colours colours₁) (lent len len₁) r

@@ -46,7 +46,7 @@ padsStored p out = put (put (put (put out 0 (p .left)) 1 (p .right)) 2 (p .top))
 
 -- row, column
 abbrev pub offsetStored : Offset → List ℤ → List ℤ
-offsetStored o out = put (put out 0 (o .0)) 1 (o .1)
+offsetStored offset out = put (put out 0 (offset .0)) 1 (offset .1)
 
 -- the slices lent for an extension
 pub record Extended : Type 0 where

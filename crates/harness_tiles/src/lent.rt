@@ -69,7 +69,7 @@ fn put_offset(out: &mut [i32], offset: Offset)
     put_signed(out, 1, offset.1);
 }
 
-pub fn extension_told(
+pub fn extension_given(
     answer: ExtensionAnswer,
     pads: &mut [u64],
     offset: &mut [i32],
@@ -89,7 +89,7 @@ pub fn extension_told(
     }
 }
 
-pub fn colours_told(list: ColourList, colours: &mut [u8], len: &mut [u64]) -> u32
+pub fn colours_given(list: ColourList, colours: &mut [u8], len: &mut [u64]) -> u32
     ensures { λ r. ⌜ TellsMembers list colours len r ⌝ }
 {
     if list.refused != 0 {

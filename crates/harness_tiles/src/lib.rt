@@ -55,7 +55,7 @@ pub extern "C" fn port_calculate_extension(
     let place = world_at(row, col);
     let from = offset_at(down, across);
     let answer = place_extension::calculate_extension(rows, cols, from, place, radius);
-    lent::extension_told(answer, pads, offset, needed)
+    lent::extension_given(answer, pads, offset, needed)
 }
 
 #[no_mangle]
@@ -82,7 +82,7 @@ pub extern "C" fn port_constrain_extension(
     let from = offset_at(down, across);
     let bounds = lent::box_at(minrow, mincol, maxrow, maxcol);
     let answer = place_extension::constrain_extension(rows, cols, from, place, radius, bounds);
-    lent::extension_told(answer, pads, offset, needed)
+    lent::extension_given(answer, pads, offset, needed)
 }
 
 #[no_mangle]
@@ -136,7 +136,7 @@ pub extern "C" fn port_set_to_vec(bits: u32, size: u32, colours: &mut [u8], len:
     ensures { λ r. ⌜ TellsMembers (membersListed (setFrom bits size)) colours len r ⌝ }
 {
     let list = bitset::to_vec(TileBitset { bits, size });
-    lent::colours_told(list, colours, len)
+    lent::colours_given(list, colours, len)
 }
 
 #[no_mangle]

@@ -1,4 +1,4 @@
--- How the code holds a reading: the number of the numbers that are ended in place of the numbers.
+-- How the code holds a reading: how many numbers are ended, and not the numbers themselves.
 use Prim.Native.Nat.{ℕ, _+_, _<_, _≤_}
 use mathlib.Core.List.{List, [], _∷_, _++_}
 use lib.ListN.{length, set}

@@ -99,7 +99,7 @@ fn take_some(queue: ForcedPipeline, times: usize) -> ForcedPipeline {
     left
 }
 
-// The place that belongs to a serial number: eight to a row.
+// The position of a serial number: its place, eight to a row, and the number as its colour.
 fn position(serial: u32) -> ForcedPosition {
     ForcedPosition {
         coordinates: World((serial / 8) as i32, (serial % 8) as i32),
@@ -122,9 +122,9 @@ fn positions(first: u32, len: usize) -> ForcedPositions
 }
 
 // A single position, at the place of one serial number and with another as its colour.
-fn single(coordinates: World, colour: u32) -> ForcedPositions {
+fn single(place: World, colour: u32) -> ForcedPositions {
     let one = ForcedPosition {
-        coordinates,
+        coordinates: place,
         colour,
     };
     ForcedPositions {
@@ -134,9 +134,9 @@ fn single(coordinates: World, colour: u32) -> ForcedPositions {
 }
 
 // A queue of which `len` entries wait, all of them at one place, as no call leaves it.
-fn waiting(coordinates: World, len: usize) -> ForcedPipeline {
+fn waiting(place: World, len: usize) -> ForcedPipeline {
     let one = ForcedPosition {
-        coordinates,
+        coordinates: place,
         colour: 1,
     };
     ForcedPipeline {

@@ -41,7 +41,7 @@ pub out-first : (q left : ForcedPipeline) (d : ForcedPosition) → 0 < q .len �
 unfolding queued nextOut
 out-first q left d h k e = rw (e, slice-cons 0 (q .len) (q .entries) d h k)
 
--- one entry more, at the first free place
+-- one position more, in the first free entry
 fill : (l : List ForcedPosition) (e : ForcedPosition) → length l < queueRoom
     → set (padded queueRoom l) (length l) e ≡ padded queueRoom (l ++ (e ∷ []))
 unfolding padded

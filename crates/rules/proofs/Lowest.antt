@@ -116,8 +116,8 @@ fraction-lowest counts rows cols tiles k = by-order _ refl refl
 pub lay-score-lowest : (scores : List Float) (counts : List ℕ) (rows cols tiles : ℕ) (w : World) (o : Offset) → Lowest (layScoreChecks scores counts rows cols tiles w o)
 lay-score-lowest scores counts rows cols tiles w o = by-order _ refl refl
 
-pub lift-score-lowest : (scores : List Float) (counts : List ℕ) (rows cols tiles : ℕ) (rowSpan colSpan : Span) → Lowest (liftScoreChecks scores counts rows cols tiles rowSpan colSpan)
-lift-score-lowest scores counts rows cols tiles rowSpan colSpan = by-order _ refl refl
+pub lift-score-lowest : (scores : List Float) (counts : List ℕ) (rows cols tiles : ℕ) (rowspan colspan : Span) → Lowest (liftScoreChecks scores counts rows cols tiles rowspan colspan)
+lift-score-lowest scores counts rows cols tiles rowspan colspan = by-order _ refl refl
 
 pub normalise-lowest : (ps : List Float) (rows cols count : ℕ) (w : World) (o : Offset) (out : List Float) → Lowest (normaliseChecks ps rows cols count w o out)
 normalise-lowest ps rows cols count w o out = by-order _ refl refl

@@ -31,7 +31,7 @@ use Rattle.rules.specs.declared.DeadEnd.{DeadEnd}
 
 -- ---- forced neighbours
 
--- the neighbour of a place that has place d, row by row from 0 to 8, in the 3x3 round it; d = 4 is the place itself
+-- of the nine places of the 3x3 round a place, row by row, number d; d = 4 is the place itself
 unfoldable pub neighbour : World → ℕ → World
 neighbour place d = record { 0 = (place .0 +ℤ pos (d / 3)) -ℤ pos 1; 1 = (place .1 +ℤ pos (d % 3)) -ℤ pos 1 }
 

@@ -75,8 +75,8 @@ ScoresLay rows cols counts tiles place offset old =
     Writes (layScoreChecks old counts rows cols tiles place offset) (layScores rows cols counts tiles place offset old) old
 
 abbrev pub ScoresLift : ℕ → ℕ → List ℕ → ℕ → Span → Span → List Float → Written → List Float → Type 0
-ScoresLift rows cols counts tiles rowSpan colSpan old =
-    Writes (liftScoreChecks old counts rows cols tiles rowSpan colSpan) (liftScores rows cols counts tiles rowSpan colSpan old) old
+ScoresLift rows cols counts tiles rowspan colspan old =
+    Writes (liftScoreChecks old counts rows cols tiles rowspan colspan) (liftScores rows cols counts tiles rowspan colspan old) old
 
 -- normalised probabilities, the product step and its reverse
 abbrev pub Normalises : List Float → ℕ → ℕ → ℕ → World → Offset → List Float → Written → List Float → Type 0

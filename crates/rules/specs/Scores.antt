@@ -68,11 +68,11 @@ layScores rows cols counts tiles place offset scores = scored rows cols (layFall
 
 -- the lift score writes each cell of its spans: the mean of the squared fractions
 abbrev pub liftFalls : Span → Span → ℕ → ℕ → Bool
-liftFalls rowSpan colSpan r c = inSpan rowSpan r && inSpan colSpan c
+liftFalls rowspan colspan r c = inSpan rowspan r && inSpan colspan c
 
 unfoldable pub liftScores : ℕ → ℕ → List ℕ → ℕ → Span → Span → List Float → List Float
-liftScores rows cols counts tiles rowSpan colSpan scores =
-    scored rows cols (liftFalls rowSpan colSpan) (squaredFraction counts tiles) scores
+liftScores rows cols counts tiles rowspan colspan scores =
+    scored rows cols (liftFalls rowspan colspan) (squaredFraction counts tiles) scores
 
 -- ---- the calls
 
@@ -104,8 +104,8 @@ layScoreChecks scores counts rows cols tiles place offset =
 
 -- Span ends at most the board's side
 abbrev pub liftScoreChecks : List Float → List ℕ → ℕ → ℕ → ℕ → Span → Span → Checks
-liftScoreChecks scores counts rows cols tiles rowSpan colSpan =
+liftScoreChecks scores counts rows cols tiles rowspan colspan =
     SHAPE unless boardSides rows cols
-    then SHAPE unless leb (rowSpan .1) rows
-    then SHAPE unless leb (colSpan .1) cols
+    then SHAPE unless leb (rowspan .1) rows
+    then SHAPE unless leb (colspan .1) cols
     then scoreChecks scores counts rows cols tiles

@@ -145,8 +145,8 @@ pub fn variant_of(
 {
     let n = forms_of(rotations, reflections);
     let wide = starts_along(cols);
-    let w = v / n;
-    let tile = window_tile(sample, rows, cols, w / wide, w % wide);
+    let window = v / n;
+    let tile = window_tile(sample, rows, cols, window / wide, window % wide);
     form_of(rotations, v % n, tile)
 }
 

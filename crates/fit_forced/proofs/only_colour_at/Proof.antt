@@ -1,4 +1,4 @@
--- `fit_forced::only_colour_at` meets its contract. The listing is always a set, so the way of a refusal is never gone. Assumes nothing.
+-- `fit_forced::only_colour_at` meets its contract. The listing is always a set, so the branch of a refusal is never taken. Assumes nothing.
 use mathlib.Core.Path.{sym, _∙_}
 use native.Mathlib.Omega.{arith}
 use borrow.Author.Tests.{lt-ltb, le-ltb}

@@ -1,4 +1,4 @@
--- `fit_pattern::colour_at` meets its contract: past the grid the cell is bare, on it the piece is read at its number, less 1. Assumes nothing.
+-- `fit_pattern::colour_at` meets its contract: past the grid the cell is bare, on it the piece is read at its entry, less 1. Assumes nothing.
 use mathlib.Core.Path.{sym, ap}
 use native.Mathlib.Omega.{arith}
 use Rattle.rules.specs.Grid.{cellAt, colourOn}

@@ -2,7 +2,7 @@
 use Prim.Native.Nat.{ℕ, _+_, _^_, _<_}
 use native.Mathlib.Omega.{arith}
 use lib.ListN.{getD}
-use Rattle.fit_pattern.proofs.Packed.{word-lt, joined}
+use Rattle.fit_pattern.proofs.Packed.{packed-lt, joined}
 use borrow.Author.Needs.{needs}
 use Rattle.fit_pattern.proofs.eight.Statement.{statement}
 use Rattle.fit_pattern.proofs.eight.Tie as tie
@@ -21,7 +21,7 @@ halves : (c : tie.After-four2) → (c .four2 .result < 2 ^ 32) × (c .before .fo
 halves c =
     let a = c .before .before .before .args in
     let byte : (i : ℕ) → getD (a .cells .now) i 0 < 256 = λ i. omega (arith, c .before .before .shared-slice-known .given i) in
-    (rw (c .four2 .ensures) (word-lt 4 _ (λ i l. byte (a .at + 4 + i))), rw (c .before .four .ensures) (word-lt 4 _ (λ i l. byte (a .at + i))))
+    (rw (c .four2 .ensures) (packed-lt 4 _ (λ i l. byte (a .at + 4 + i))), rw (c .before .four .ensures) (packed-lt 4 _ (λ i l. byte (a .at + i))))
 
 mul-result : tie.Need-mul-result
 mul-result c = let h = halves c in record { fits = omega arith }

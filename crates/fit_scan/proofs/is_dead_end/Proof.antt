@@ -1,5 +1,5 @@
 -- `fit_scan::is_dead_end` meets its contract: what each test leaves of the definition. The listing is always a set, so the way of a refusal is
--- never gone. Assumes nothing.
+-- never taken. Assumes nothing.
 use native.Mathlib.Omega.{arith}
 use lib.Dec.{eqb}
 use lib.ListN.{length}

@@ -19,8 +19,8 @@ offset-at-requires c κs = search needs
 calculate-extension-requires : tie.Need-calculate-extension-requires
 calculate-extension-requires c κs = search needs
 
-extension-told-requires : tie.Need-extension-told-requires
-extension-told-requires c κs = search needs
+extension-given-requires : tie.Need-extension-given-requires
+extension-given-requires c κs = search needs
 
 same-length : tie.Need-same-length
 same-length c = search needs
@@ -40,7 +40,7 @@ returns c =
     ∙ ap₂ (λ (w : World) (o : Offset). extensionOf (a .rows) (a .cols) o w (a .radius))
     (c .before .before .before .before .before .before .before .before .before .before .before .world-at .ensures ∙ world-is (e .fits .row) (e .fits .col))
     (c .before .before .before .before .before .before .before .before .before .before .offset-at .ensures ∙ offset-is (e .fits .down) (e .fits .across)))
-    (c .before .before .before .before .before .extension-told .ensures)
+    (c .before .before .before .before .before .extension-given .ensures)
 
 pub port-calculate-extension-spec : {M : Type 1} → statement M
 port-calculate-extension-spec =
@@ -49,7 +49,7 @@ port-calculate-extension-spec =
     world-at-requires
     offset-at-requires
     calculate-extension-requires
-    extension-told-requires
+    extension-given-requires
     same-length
     same-length-2
     same-length-3

@@ -25,8 +25,8 @@ box-at-requires c κs = search needs
 constrain-extension-requires : tie.Need-constrain-extension-requires
 constrain-extension-requires c κs = search needs
 
-extension-told-requires : tie.Need-extension-told-requires
-extension-told-requires c κs = search needs
+extension-given-requires : tie.Need-extension-given-requires
+extension-given-requires c κs = search needs
 
 same-length : tie.Need-same-length
 same-length c = search needs
@@ -48,7 +48,7 @@ returns c =
     (c .before .before .before .before .before .before .before .before .before .before .before .offset-at .ensures ∙ offset-is (e .fits .down) (e .fits .across))
     ∙ ap (λ (b : BoundingBox). boxedExtension (a .rows) (a .cols) (offsetBy (a .down) (a .across)) (world (a .row) (a .col)) (a .radius) b)
     (c .before .before .before .before .before .before .before .before .before .before .box-at .ensures ∙ box-is (e .fits .minrow) (e .fits .mincol) (e .fits .maxrow) (e .fits .maxcol)))
-    (c .before .before .before .before .before .extension-told .ensures)
+    (c .before .before .before .before .before .extension-given .ensures)
 
 pub port-constrain-extension-spec : {M : Type 1} → statement M
 port-constrain-extension-spec =
@@ -58,7 +58,7 @@ port-constrain-extension-spec =
     offset-at-requires
     box-at-requires
     constrain-extension-requires
-    extension-told-requires
+    extension-given-requires
     same-length
     same-length-2
     same-length-3

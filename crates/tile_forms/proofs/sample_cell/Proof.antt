@@ -13,7 +13,7 @@ returns c = cell-below _ _ _ _ _ (c .if1 .taken)
 returns-2 : tie.Need-returns-2
 returns-2 c = cell-right _ _ _ _ _ (c .if2 .taken)
 
--- the cell's number is that of one of at most 32 rows of 32
+-- the cell's entry is one of at most 32 rows of 32
 in-sample : (c : tie.Else2) → let a = c .before .before .args in entryOf (a .cols) (cellAt (a .r) (a .c)) < 1024
 in-sample c =
     let s = c .before .before in omega (arith, cell-lt (c .before .if1 .left) (c .if2 .left), mul-le (s .pre .low) (s .pre .narrow))

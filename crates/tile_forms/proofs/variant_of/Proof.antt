@@ -13,8 +13,8 @@ forms-of-requires c κs = search needs
 starts-along-requires : tie.Need-starts-along-requires
 starts-along-requires c κs = search needs
 
-div-w : tie.Need-div-w
-div-w c = let a = c .before .before .before .args in omega (arith, c .before .forms-of .ensures, forms-pos (a .rotations) (a .reflections))
+div-window : tie.Need-div-window
+div-window c = let a = c .before .before .before .args in omega (arith, c .before .forms-of .ensures, forms-pos (a .rotations) (a .reflections))
 
 div-window-tile : tie.Need-div-window-tile
 div-window-tile c = search needs
@@ -55,7 +55,7 @@ variant-of-spec =
     (tie.spec
     forms-of-requires
     starts-along-requires
-    div-w
+    div-window
     div-window-tile
     rem-window-tile
     window-tile-requires

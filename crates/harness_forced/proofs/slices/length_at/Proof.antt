@@ -12,7 +12,7 @@ returns : tie.Need-returns
 returns c = search needs
 
 returns-2 : tie.Need-returns-2
-returns-2 c = sym (List·getD-eq-default (c .before .args .words .now) 0 (c .if1 .left))
+returns-2 c = sym (List·getD-eq-default (c .before .args .longs .now) 0 (c .if1 .left))
 
 pub length-at-spec : {M : Type 1} → statement M
 length-at-spec =

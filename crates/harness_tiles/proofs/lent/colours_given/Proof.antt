@@ -1,10 +1,10 @@
--- `harness_tiles::lent::colours_told` meets its contract: a refusal stores nothing, else the entries and the length. Assumes nothing.
+-- `harness_tiles::lent::colours_given` meets its contract: a refusal stores nothing, else the entries and the length. Assumes nothing.
 
 use Rattle.harness_tiles.specs.Lent.{bytesWith}
 use Rattle.harness_tiles.proofs.Stored.{colours-refused, colours-stored}
 use borrow.Author.Needs.{needs}
-use Rattle.harness_tiles.proofs.lent.colours_told.Statement.{statement}
-use Rattle.harness_tiles.proofs.lent.colours_told.Tie as tie
+use Rattle.harness_tiles.proofs.lent.colours_given.Statement.{statement}
+use Rattle.harness_tiles.proofs.lent.colours_given.Tie as tie
 
 cast-result : tie.Need-cast-result
 cast-result c = search needs
@@ -32,8 +32,8 @@ returns-2 c =
     let a = c .before .before .before .before .before .before .before .before .before .before .before .before .before .before .args in
     colours-stored (a .list) (bytesWith (a .colours .now) (a .len .now)) (c .before .before .before .before .before .before .before .before .before .before .if1 .left) (c .before .before .before .before .before .before .put-bytes .ensures) (c .before .before .put-long .ensures)
 
-pub colours-told-spec : {M : Type 1} → statement M
-colours-told-spec =
+pub colours-given-spec : {M : Type 1} → statement M
+colours-given-spec =
     tie.close
     (tie.spec
     cast-result

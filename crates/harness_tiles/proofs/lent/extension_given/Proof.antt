@@ -1,12 +1,12 @@
--- `harness_tiles::lent::extension_told` meets its contract: each case of the answer gives its number and its values. Assumes nothing.
+-- `harness_tiles::lent::extension_given` meets its contract: each case of the answer gives its number and its values. Assumes nothing.
 use mathlib.Core.Path.{refl}
 use Rattle.boundary_slots.proofs.Storing.{puts}
 use Rattle.boundary.proofs.Back.{stored}
 use Rattle.harness_tiles.specs.Lent.{extensionNumber, extensionLeft}
 use Rattle.harness_tiles.proofs.Stored.{each-slice, unstored}
 use borrow.Author.Needs.{needs}
-use Rattle.harness_tiles.proofs.lent.extension_told.Statement.{statement}
-use Rattle.harness_tiles.proofs.lent.extension_told.Tie as tie
+use Rattle.harness_tiles.proofs.lent.extension_given.Statement.{statement}
+use Rattle.harness_tiles.proofs.lent.extension_given.Tie as tie
 
 enum-known-answer : tie.Need-enum-known-answer
 enum-known-answer c = search needs
@@ -44,8 +44,8 @@ returns c = stored extensionNumber extensionLeft (c .before .before .before .bef
 returns-2 : tie.Need-returns-2
 returns-2 c = unstored extensionNumber extensionLeft (c .before .answer2 .given .1) refl refl
 
-pub extension-told-spec : {M : Type 1} → statement M
-extension-told-spec =
+pub extension-given-spec : {M : Type 1} → statement M
+extension-given-spec =
     tie.close
     (tie.spec
     enum-known-answer
