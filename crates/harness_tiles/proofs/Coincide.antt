@@ -52,11 +52,13 @@ extends answer pads pads₁ pads₂ offset offset₁ offset₂ needed needed₁ 
 
 pub port-calculate-extension-coincide : (rows cols : ℕ) (down across row col : ℤ) (radius : ℕ)
     → Extends (extensionOf rows cols (offsetBy down across) (world row col) radius)
-port-calculate-extension-coincide rows cols down across row col radius = extends _
+port-calculate-extension-coincide rows cols down across row col radius =
+    extends (extensionOf rows cols (offsetBy down across) (world row col) radius)
 
 pub port-constrain-extension-coincide : (rows cols : ℕ) (down across row col : ℤ) (radius : ℕ) (minrow mincol maxrow maxcol : ℤ)
     → Extends (boxedExtension rows cols (offsetBy down across) (world row col) radius (boxOf minrow mincol maxrow maxcol))
-port-constrain-extension-coincide rows cols down across row col radius minrow mincol maxrow maxcol = extends _
+port-constrain-extension-coincide rows cols down across row col radius minrow mincol maxrow maxcol =
+    extends (boxedExtension rows cols (offsetBy down across) (world row col) radius (boxOf minrow mincol maxrow maxcol))
 
 pub port-set-to-vec-coincide : (bits size : ℕ) (colours colours₁ colours₂ len len₁ len₂ : RefT (List ℕ)) {r s : ℕ}
     → TellsMembers (membersListed (setFrom bits size)) (lent colours colours₁) (lent len len₁) r
