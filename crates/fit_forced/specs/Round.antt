@@ -31,7 +31,9 @@ onlyAt g tiles pieces count k = pick (laidOn pieces k) 0 (only (listedAt g tiles
 -- the colour that is forced at a place, 0 where none is
 unfoldable pub forcedColour : Kind → List ℕ → ℕ → ℕ → List ℕ → ℕ → World → Offset → GenerationBounds → ℕ
 forcedColour kind pieces rows cols tiles count place offset b =
-    pick (isForced kind pieces rows cols tiles count place offset b) (only (listedAt (kind rows cols) tiles pieces count (entryOf cols (cellOf place offset)))) 0
+    pick (isForced kind pieces rows cols tiles count place offset b)
+    (only (listedAt (kind rows cols) tiles pieces count (entryOf cols (cellOf place offset))))
+    0
 
 -- one position more, unless its colour is 0
 unfoldable pub withForced : List ForcedPosition → World → ℕ → List ForcedPosition

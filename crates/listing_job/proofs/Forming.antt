@@ -1,4 +1,4 @@
--- Laws of the job's form: a step at the start of a list and at a place in it, the walk from step to step, and the bounds that a form
+-- Laws of the job's form: a step at the start of a list and further on in it, the walk from step to step, and the bounds that a form
 -- gives.
 -- Assumes nothing.
 use Prim.Native.Nat.{ℕ, zero, suc, _+_, _-_, _*_, _<_, _≤_}
@@ -73,7 +73,7 @@ and-whole : (s : Step) (x : Steps) → isWhole (andThen s x) ≡ isWhole x
 and-whole s misformed = refl
 and-whole s (steps l) = refl
 
--- ---- a step at a place
+-- ---- a step further on in a list
 unfoldable pub wholeFrom : List ℕ → ℕ → Bool
 wholeFrom ns p = pick (leb p (length ns)) (isWhole (stepsIn (drop p ns))) false
 

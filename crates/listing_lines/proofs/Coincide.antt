@@ -8,7 +8,7 @@ use Rattle.listing_lines.specs.Lines.{decimal, numberLine, planeText}
 use Rattle.listing_lines.specs.Pages.{Prints}
 
 pub prints-coincide : {t x y z : List ℕ} {at r s : ℕ} → Prints t at x r y → Prints t at x s z → (r ≡ s) × (y ≡ z)
-prints-coincide p q = (coincide (p .place) (q .place), coincide (p .bytes) (q .bytes))
+prints-coincide p q = (coincide (p .end) (q .end), coincide (p .bytes) (q .bytes))
 
 pub put-number-coincides : {x y z : List ℕ} {at r s : ℕ} (n : ℕ) → Prints (decimal n) at x r y → Prints (decimal n) at x s z → (r ≡ s) × (y ≡ z)
 put-number-coincides n p q = prints-coincide p q

@@ -9,7 +9,7 @@ use native.Mathlib.Omega.{arith}
 use lib.ListN.{length, set, drop, length-append}
 use lib.Seq.{sets, length-sets, sets-eq, set-out}
 use Rattle.base.proofs.Numbers.{lt-or-le}
-use Rattle.listing_lines.specs.Pages.{pageWith, placeAfter, Prints}
+use Rattle.listing_lines.specs.Pages.{pageWith, endAfter, Prints}
 
 pub length-page : (t : List ℕ) (at : ℕ) (x : List ℕ) → length (pageWith t at x) ≡ length x
 unfolding pageWith
@@ -30,9 +30,9 @@ page-append (b ∷ t) u at x =
     page-append t u (suc at) (set x at b)
     ∙ ap (λ (k : ℕ). sets (sets (set x at b) (suc at) t) k u) (suc-add at (length t) ∙ sym (add-suc at (length t)))
 
--- the place after a text serves as well as the sum: they differ only past the end
-page-there : (t u : List ℕ) (at : ℕ) (x : List ℕ) → pageWith u (placeAfter t at x) (pageWith t at x) ≡ pageWith (t ++ u) at x
-unfolding placeAfter
+-- the end of a text serves as well as the sum: they differ only past the end
+page-there : (t u : List ℕ) (at : ℕ) (x : List ℕ) → pageWith u (endAfter t at x) (pageWith t at x) ≡ pageWith (t ++ u) at x
+unfolding endAfter
 page-there t u at x =
     ⊎-elim (λ past. out (omega arith) (omega arith)) (λ fits. near fits) (lt-or-le (length x) (at + length t))
     ∙ sym (page-append t u at x)
@@ -50,28 +50,28 @@ page-there t u at x =
     near : at + length t ≤ length x → pageWith u (max at (min (at + length t) (length x))) y ≡ pageWith u (at + length t) y
     near h = ap (λ (k : ℕ). pageWith u k y) (omega arith)
 
-place-there : (t u : List ℕ) (at : ℕ) (x y : List ℕ) → length y ≡ length x → placeAfter u (placeAfter t at x) y ≡ placeAfter (t ++ u) at x
-unfolding placeAfter
-place-there t u at x y e = omega (arith, length-append t u)
+end-there : (t u : List ℕ) (at : ℕ) (x y : List ℕ) → length y ≡ length x → endAfter u (endAfter t at x) y ≡ endAfter (t ++ u) at x
+unfolding endAfter
+end-there t u at x y e = omega (arith, length-append t u)
 
 -- ---- a call that writes
 pub writes-byte : (b at : ℕ) (x : List ℕ) → at < length x → Prints (b ∷ []) at x (at + 1) (set x at b)
-unfolding pageWith placeAfter
-writes-byte b at x h = record { place = omega arith; bytes = refl }
+unfolding pageWith endAfter
+writes-byte b at x h = record { end = omega arith; bytes = refl }
 
 pub writes-full : (t : List ℕ) (at : ℕ) (x : List ℕ) → length x ≤ at → Prints t at x at x
-unfolding placeAfter
-writes-full t at x h = record { place = omega arith; bytes = sym (page-out t at x h) }
+unfolding endAfter
+writes-full t at x h = record { end = omega arith; bytes = sym (page-out t at x h) }
 
 pub writes-none : (at : ℕ) (x : List ℕ) → Prints [] at x at x
-unfolding pageWith placeAfter
-writes-none at x = record { place = omega arith; bytes = refl }
+unfolding pageWith endAfter
+writes-none at x = record { end = omega arith; bytes = refl }
 
 pub writes-then : {t u : List ℕ} {at r s : ℕ} {x y z : List ℕ} → Prints t at x r y → Prints u r y s z → Prints (t ++ u) at x s z
 writes-then {t} {u} {at} {r} {s} {x} {y} {z} f g =
     record {
-      place = g .place ∙ ap (λ (k : ℕ). placeAfter u k y) (f .place) ∙ place-there t u at x y (ap length (f .bytes) ∙ length-page t at x);
-      bytes = g .bytes ∙ ap (λ (k : ℕ). pageWith u k y) (f .place) ∙ ap (pageWith u (placeAfter t at x)) (f .bytes) ∙ page-there t u at x;
+      end = g .end ∙ ap (λ (k : ℕ). endAfter u k y) (f .end) ∙ end-there t u at x y (ap length (f .bytes) ∙ length-page t at x);
+      bytes = g .bytes ∙ ap (λ (k : ℕ). pageWith u k y) (f .end) ∙ ap (pageWith u (endAfter t at x)) (f .bytes) ∙ page-there t u at x;
     }
 
 -- the same text by another name
@@ -80,8 +80,8 @@ writes-as {at = at} {r = r} {x = x} {y = y} e f = subst (λ (q : List ℕ). Prin
 
 -- ---- what stands there in the end, where there was room
 pub writes-all : (t x : List ℕ) (r : ℕ) (y : List ℕ) → Prints t 0 x r y → length t ≤ length x → (r ≡ length t) × (y ≡ t ++ drop (length t) x)
-unfolding pageWith placeAfter
+unfolding pageWith endAfter
 writes-all t x r y f h =
     let n : max 0 (min (0 + length t) (length x)) ≡ length t = omega arith in
     let m : 0 + length t ≡ length t = omega arith in
-    (f .place ∙ n, f .bytes ∙ sets-eq t x 0 (omega arith) ∙ ap (λ (k : ℕ). t ++ drop k x) m)
+    (f .end ∙ n, f .bytes ∙ sets-eq t x 0 (omega arith) ∙ ap (λ (k : ℕ). t ++ drop k x) m)

@@ -1,5 +1,5 @@
-// Numbers and planes as text, written into a lent buffer. Each call takes the place at which it starts and answers the place after what
-// it wrote; what would pass the buffer's end is dropped, and the place stays at the end.
+// Numbers and planes as text, written into a lent buffer. Each call takes the entry at which it starts and answers the entry after what it
+// wrote; what would pass the buffer's end is dropped, and the answer stays at the end.
 ghost use mathlib.Core.Path.{_≡_};
 ghost use mathlib.Core.List.{[], _∷_};
 ghost use Prim.Native.Nat.{_+_, _-_, _%_, _<_};

@@ -1,5 +1,5 @@
--- Laws of the walk along the steps: what a step at a place is, where the next one starts, and the loop that takes one after the other. Its
--- invariant is that what is left to do, from the board and the page as they are, comes to the whole.
+-- Laws of the walk along the steps: what a step somewhere in the list is, where the next one starts, and the loop that takes one after the
+-- other. Its invariant is that what is left to do, from the board and the page as they are, comes to the whole.
 -- Assumes nothing.
 use Prim.Native.Nat.{ℕ, zero, suc, _+_, _<_, _≤_}
 use mathlib.Core.Path.{_≡_, refl, sym, _∙_, ap, subst}
@@ -42,7 +42,7 @@ pub lift-number-of : (n : ℕ) → liftNumber (liftAnswer n) ≡ n
 lift-number-of zero = refl
 lift-number-of (suc n) = refl
 
--- ---- the step at a place
+-- ---- the step somewhere in the list
 first-of : (s : Step) (x : Steps) → isWhole (andThen s x) ≡ true → (listOf (andThen s x) ≡ s ∷ listOf x) × (isWhole x ≡ true)
 first-of s misformed t = never false t refl
 first-of s (steps l) t = (refl, refl)

@@ -33,7 +33,7 @@ use Rattle.listing_job.specs.declared.Form.the-variants as Form·
 use Rattle.listing_job.specs.declared.Setup.{Setup}
 use Rattle.listing_job.proofs.Forming.{formed-head, formed-tail, head-sides, sides-up, few-cells}
 use Rattle.listing_numbers.proofs.Meaning.{input-few, input-small}
-use Rattle.listing_lines.specs.Pages.{placeAfter, Prints}
+use Rattle.listing_lines.specs.Pages.{endAfter, Prints}
 use Rattle.listing_lines.proofs.Written.{length-page, writes-then, writes-as}
 use Rattle.listing_steps.specs.Steps.{answersText, boardIn}
 use Rattle.listing_text.specs.Printed.{badLine, runText, freshFor, freshRun, unlessNumber, setupRefusal, tilesOf, jobText, numbersText, textFor, printed}
@@ -261,8 +261,8 @@ module _ (input d : List ℕ) (a : Parsed) (x : List ℕ) (room : length d ≡ 8
 
 -- ---- the call
 pub writes-counts : (t : List ℕ) (x : List ℕ) (r : ℕ) (y : List ℕ) → Prints t 0 x r y → Counts r y × Prints t 0 x r y
-unfolding placeAfter
+unfolding endAfter
 writes-counts t x r y w =
     let n : length y ≡ length x = ap length (w .bytes) ∙ length-page t 0 x in
-    let h : r ≤ length y = omega (arith, w .place, n) in
+    let h : r ≤ length y = omega (arith, w .end, n) in
     ((h, sym (length-take-le r y h)), w)

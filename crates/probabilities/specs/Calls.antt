@@ -15,4 +15,5 @@ stepped false rows cols b place offset k plane = multiplied rows cols b place of
 stepped true rows cols b place offset k plane = divided rows cols b place offset k plane
 
 abbrev pub Changes : Bool → ℕ → ℕ → ℕ → Block → World → Offset → ℕ → List Float → Written → List Float → Type 0
-Changes reverse rows cols count b place offset k old = Writes (influenceChecks old rows cols count b place offset k) (stepped reverse rows cols b place offset k old) old
+Changes reverse rows cols count b place offset k old =
+    Writes (influenceChecks old rows cols count b place offset k) (stepped reverse rows cols b place offset k old) old

@@ -21,7 +21,7 @@ use Rattle.rules.specs.declared.CountAnswer.{CountAnswer}
 
 -- the 3x3 pattern of what starts at s: the colour at each place, 0 where it is bare
 abbrev pub pattern : Shape → List ℕ → ℕ → ℕ → ℕ
-pattern g pieces s i = colourOn pieces (g .place s i)
+pattern g pieces s i = colourOn pieces (g .cell s i)
 
 -- A tile fits a pattern when it equals it wherever the pattern isn't bare
 unfoldable pub agrees : ℕ → ℕ → Bool

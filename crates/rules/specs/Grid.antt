@@ -29,7 +29,7 @@ pub record Shape : Type 0 where
   pub kept : ℕ → ℕ → Bool
   pub start : ℕ → ℕ → ℕ
   -- the cell at place i of what starts at s; where that is past the edge, an entry that no cell has
-  pub place : ℕ → ℕ → ℕ
+  pub cell : ℕ → ℕ → ℕ
   -- what starts at s does not pass the edge
   pub whole : ℕ → Bool
   -- the distance of two cells
@@ -56,7 +56,7 @@ flat rows cols =
     record {
       kept = λ k q. leb (q / 3) (k / cols) && leb (q % 3) (k % cols);
       start = λ k q. entryOf cols (cellAt (k / cols - q / 3) (k % cols - q % 3));
-      place = λ s i. entryOrPast rows cols (cellAt (s / cols + i / 3) (s % cols + i % 3));
+      cell = λ s i. entryOrPast rows cols (cellAt (s / cols + i / 3) (s % cols + i % 3));
       whole = λ s. ltb (s / cols + 2) rows && ltb (s % cols + 2) cols;
       apart = λ j k. distance (cellWith cols j) (cellWith cols k);
     }

@@ -50,10 +50,12 @@ Freshens rows cols tiles old = Writes (freshChecks rows cols tiles old) (freshBo
 
 -- the weights round a place, up and down
 abbrev pub Raises : Kind → ℕ → ℕ → World → Offset → List ℕ → Written → List ℕ → Type 0
-Raises kind rows cols place offset old = Writes (weightChecks old rows cols place offset) (raised (kind rows cols) (entryOf cols (cellOf place offset)) old) old
+Raises kind rows cols place offset old =
+    Writes (weightChecks old rows cols place offset) (raised (kind rows cols) (entryOf cols (cellOf place offset)) old) old
 
 abbrev pub Lowers : Kind → ℕ → ℕ → World → Offset → List ℕ → Written → List ℕ → Type 0
-Lowers kind rows cols place offset old = Writes (weightChecks old rows cols place offset) (lowered (kind rows cols) (entryOf cols (cellOf place offset)) old) old
+Lowers kind rows cols place offset old =
+    Writes (weightChecks old rows cols place offset) (lowered (kind rows cols) (entryOf cols (cellOf place offset)) old) old
 
 -- the counts round a place
 abbrev pub Recounts : Panel → ℕ → World → List ℕ → List ℕ → Written → List ℕ → Type 0

@@ -31,7 +31,7 @@ use Rattle.rules.specs.Board.{Board, share, reach, weightsOf, countsOf, boardOf
 
 -- all that is asked of a shape: a region that lies inside and starts further than two cells from cell k does not show cell k
 pub record Sound (g : Shape) : Type 0 where
-  pub unseen : (k s i : ℕ) → i < 9 → g .whole s ≡ true → 2 < g .apart k s → g .place s i ≢ k
+  pub unseen : (k s i : ℕ) → i < 9 → g .whole s ≡ true → 2 < g .apart k s → g .cell s i ≢ k
 
 -- equal planes make equal boards
 abbrev planes : List ℕ → List ℕ → List ℕ → Board
@@ -167,7 +167,7 @@ module _ (g : Shape) where
             (λ inside.
             ap (λ (n : ℕ). pick (g .whole s) n (tilesIn tiles))
             (count-ext tiles (pattern g p s) (pattern g (set p k v) s)
-            (λ i i<. ap (λ (x : ℕ). x - 1) (sym (getD-set-other p k (g .place s i) v 0 (sound .unseen k s i i< inside (leb-false (g .apart k s) 2 (not-first (leb (g .apart k s) 2) (g .whole s) inside far))))))))
+            (λ i i<. ap (λ (x : ℕ). x - 1) (sym (getD-set-other p k (g .cell s i) v 0 (sound .unseen k s i i< inside (leb-false (g .apart k s) 2 (not-first (leb (g .apart k s) 2) (g .whole s) inside far))))))))
             (λ past. pick-no (g .whole s) (fits p s) (tilesIn tiles) past ∙ sym (pick-no (g .whole s) (fits (set p k v) s) (tilesIn tiles) past))
 
         at : (s : ℕ) → s < length p → again s ≡ counted (set p k v) s
@@ -203,7 +203,7 @@ module _ (g : Shape) where
       (λ k k<. sym (ap (λ (m : ℕ). 1 + m) (sum-none n (term none k) (λ j j<. pick-no (laidOn none j) (reach g j k) 0 (le-ltb 1 (getD none j 0) (bare-off n j))))))
       ∙ ap (λ (m : ℕ). tab m (weightAt m none)) (sym long))
       (tab-ext n (λ s. tilesIn tiles) counted
-      (λ s s<. sym (same (g .whole s) (fit-all tiles (pattern g none s) (λ i i<. omega (arith, bare-off n (g .place s i))))))
+      (λ s s<. sym (same (g .whole s) (fit-all tiles (pattern g none s) (λ i i<. omega (arith, bare-off n (g .cell s i))))))
       ∙ ap (λ (m : ℕ). tab m counted) (sym long))
     where
       none : List ℕ

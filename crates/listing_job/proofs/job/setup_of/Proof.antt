@@ -1,4 +1,4 @@
--- `listing_job::job::setup_of` meets its contract: each number is read at the definition's place, behind the sample's few cells. Assumes nothing.
+-- `listing_job::job::setup_of` meets its contract: each number is read where the definition has it, behind the sample's few cells. Assumes nothing.
 use native.Mathlib.Omega.{arith}
 use Rattle.listing_job.proofs.Forming.{few-cells, setup-is, sides-of}
 use borrow.Author.Needs.{needs}
