@@ -204,6 +204,31 @@ kept-old (suc n) new old h = refl
 pub has-new : {A : Type 0} (n : ℕ) (new old : A) → n ≡ 0 → unlessRefused n new old ≡ new
 has-new n new old e = rw e
 
+-- what is made of the old value or of the new one
+pub through : {A B : Type 0} (n : ℕ) (f : A → B) (new : B) (q p : A) → (n ≡ 0 → new ≡ f q) → unlessRefused n new (f p) ≡ f (unlessRefused n q p)
+through zero f new q p h = h refl
+through (suc n) f new q p h = refl
+
+-- what holds of the old value, and of the new one where the call is accepted, holds of what is left
+pub either : {A : Type 0} {new old : A} (P : A → Type 0) (n : ℕ) → (n ≡ 0 → P new) → P old → P (unlessRefused n new old)
+either P zero f h = f refl
+either P (suc n) f h = h
+
+-- a test that is made twice
+pub once : {A B : Type 0} (n : ℕ) (f : A → B) (a b : A) (s : B) → unlessRefused n (f (unlessRefused n a b)) s ≡ unlessRefused n (f a) s
+once zero f a b s = refl
+once (suc n) f a b s = refl
+
+-- two calls that are accepted together leave what corresponds
+pub together : {A : Type 0} (f : A → A) (n m : ℕ) {a b c d : A} → (n ≡ 0 → m ≡ 0) → (m ≡ 0 → n ≡ 0) → (n ≡ 0 → c ≡ f a) → d ≡ f b
+    → unlessRefused m c d ≡ f (unlessRefused n a b)
+together f zero m to from new old = has-new m _ _ (to refl) ∙ new refl
+together f (suc n) zero to from new old = absurd (out (from refl))
+  where
+    out : suc n ≡ 0 → ⊥
+    out e = omega arith
+together f (suc n) (suc m) to from new old = old
+
 -- two results that meet a promise coincide
 pub coincide : {A : Type 0} {x r s : A} → r ≡ x → s ≡ x → r ≡ s
 coincide p q = p ∙ sym q

@@ -1,6 +1,7 @@
 pub mod Bools
 pub mod Numbers
 pub mod Counted
+pub mod Sums
 pub mod Tabled
 pub mod Swept
 pub mod Sweep

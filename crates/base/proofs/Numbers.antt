@@ -1,6 +1,6 @@
 -- Laws of numbers that planes need: the index law, a cell's row and column, bounds of products, ranges.
 -- Assumes nothing.
-use Prim.Native.Nat.{ℕ, suc, _+_, _*_, _/_, _%_, _<_, _≤_}
+use Prim.Native.Nat.{ℕ, zero, suc, _+_, _*_, _/_, _%_, _<_, _≤_}
 use mathlib.Core.Path.{_≡_}
 use mathlib.Core.Bool.{true, false}
 use native.Mathlib.Nat.{le-trans, mul-le-mul-right, mul-le-mul-left, div-lt-iff-lt-mul, mod-lt, div-add-mod', suc-mul}
@@ -32,6 +32,20 @@ row-lt k rows cols p h = div-lt-iff-lt-mul {x = k} {y = rows} p .1 h
 
 pub col-lt : (k cols : ℕ) → 0 < cols → k % cols < cols
 col-lt k cols p = mod-lt k p
+
+-- a cell of a grid shows that there is a column; its row and its column
+some-columns : (k rows cols : ℕ) → k < rows * cols → 0 < cols
+some-columns k rows zero h = absurd (none h)
+  where
+    none : k < rows * 0 → ⊥
+    none h = omega arith
+some-columns k rows (suc cols) h = omega arith
+
+pub row-in : (k rows cols : ℕ) → k < rows * cols → k / cols < rows
+row-in k rows cols h = row-lt k rows cols (some-columns k rows cols h) h
+
+pub col-in : (k rows cols : ℕ) → k < rows * cols → k % cols < cols
+col-in k rows cols h = col-lt k cols (some-columns k rows cols h)
 
 -- a row ends before a later one begins
 pub rows-apart : {a b : ℕ} (wide : ℕ) → a < b → a * wide + wide ≤ b * wide

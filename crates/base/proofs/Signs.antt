@@ -12,7 +12,7 @@ use lib.Signed.{mag, ltZ, nonNeg}
 use mir.Syntax.{Width}
 use mir.Val.{SFits, toZ, ofZ, hbits}
 use mir.Facts.{toZ-ofZ, toZ-pos}
-use borrow.Author.Tests.{le-ltb, leb-true, ltb-true, eqb-true}
+use borrow.Author.Tests.{le-ltb, leb-true, ltb-true, eqb-true, eq-eqb}
 use Rattle.base.specs.Whole.{clip, eqZ, withinZ, indexBelow}
 use Rattle.base.proofs.Bools.{and-left, and-right, never}
 
@@ -73,6 +73,10 @@ module _ {w : Width} {n m : ℕ} {z y : ℤ} {A B : ℕ} (p : Reads w n z A) (q 
   subbed t = record { is = toZ-ofZ (sub-fits t) ∙ rw (p .is, q .is); low = sub-in z y (p .low) (q .low) }
 
 -- the test of equality
+pub eqZ-same : (x : ℤ) → eqZ x x ≡ true
+eqZ-same (pos a) = eq-eqb a a refl
+eqZ-same (negsuc a) = eq-eqb a a refl
+
 pub eqZ-true : (x y : ℤ) → eqZ x y ≡ true → x ≡ y
 eqZ-true (pos a) (pos b) e = ap pos (eqb-true a b e)
 eqZ-true (pos a) (negsuc b) e = never false e refl

@@ -6,16 +6,13 @@
 -- Assumes nothing.
 use Prim.Native.Nat.{ℕ, _+_, _-_, _*_, _/_, _%_, _<_, _≤_}
 use mathlib.Core.Path.{_≡_, refl, sym, _∙_, ap}
-use mathlib.Core.Bool.{_&&_, and-assoc}
 use mathlib.Core.List.{List, _++_}
 use native.Mathlib.Nat.{add-zero, add-assoc, add-sub-cancel-left, mul-le-mul-right}
 use native.Mathlib.Omega.{arith}
-use lib.Dec.{leb, ltb}
 use lib.ListN.{length, getD, take, drop}
-use borrow.Author.Tests.{lt-ltb, ltb-true, leb-true}
 use Rattle.base.specs.Tables.{tab}
-use Rattle.base.specs.Regions.{RegionFits, between, inside, overRegion}
-use Rattle.base.proofs.Bools.{by-test, same-test, pick-yes, pick-no}
+use Rattle.base.specs.Regions.{RegionFits, overRegion}
+use Rattle.base.proofs.Bools.{pick-yes, pick-no}
 use Rattle.base.proofs.Numbers.{rows-apart}
 use Rattle.base.proofs.Tabled.{length-tab, getD-tab, is-tab}
 use Rattle.base.proofs.Sweep.{Sweep, sweep-all, length-part, part-at}
@@ -24,6 +21,7 @@ use Rattle.rules.specs.Bounds.{maxBoardSide, maxCells}
 use Rattle.rules.specs.Grid.{cellAt, entryOf}
 use Rattle.rules.specs.Places.{newRows, newCols, copiedCell, copied}
 use Rattle.rules.specs.declared.Pads.{Pads}
+use Rattle.rules.proofs.Copying.{old-place}
 use Rattle.check_sizes.proofs.Sides.{board-rows, board-cols, few-cells}
 use Rattle.copy_checks.specs.Laid.{Sized, laidCell, rowsLaid}
 
@@ -119,23 +117,6 @@ module _ {A : Type 0} {none : A} {plane larger : List A} {rows cols left top : �
     laid-done h = region-done none _ _ _ _ _ _ larger (d .0 .region) (d .1) (omega arith)
 
 -- ---- the copy
-
--- the rules' test of an old cell's place, as that of a region
-shifted : (from n x : ℕ) → (leb from x && ltb (x - from) n) ≡ between from (from + n) x
-shifted from n x =
-    by-test (leb from x)
-    (λ e.
-    rw e
-    (same-test (ltb (x - from) n) (ltb x (from + n))
-    (λ t. lt-ltb x (from + n) (omega (arith, ltb-true (x - from) n t)))
-    (λ t. lt-ltb (x - from) n (omega (arith, leb-true from x e, ltb-true x (from + n) t)))))
-    (λ e. rw e)
-
-pub old-place : (rows cols : ℕ) (p : Pads) (r c : ℕ)
-    → (leb (p .left) r && ltb (r - p .left) rows && leb (p .top) c && ltb (c - p .top) cols) ≡ inside (p .left) (p .left + rows) (p .top) (p .top + cols) r c
-old-place rows cols p r c =
-    and-assoc (leb (p .left) r && ltb (r - p .left) rows) (leb (p .top) c) (ltb (c - p .top) cols)
-    ∙ rw (shifted (p .left) rows r, shifted (p .top) cols c)
 
 pub laid-copied : {A : Type 0} (none fill : A) (plane : List A) (rows cols : ℕ) (p : Pads)
     → rowsLaid none plane rows cols p (tab (newRows rows p * newCols cols p) (λ k. fill)) ≡ copied none fill plane rows cols p

@@ -31,7 +31,7 @@ fn side_fits(before: usize, side: usize, after: usize) -> bool
     }
 }
 
-fn larger_sides(rows: usize, cols: usize, pads: Pads) -> bool
+pub fn larger_sides(rows: usize, cols: usize, pads: Pads) -> bool
     ensures { λ r. ⌜ r ≡ boardSides (newRows rows pads) (newCols cols pads) ⌝ }
 {
     if side_fits(pads.left, rows, pads.right) {
@@ -42,7 +42,7 @@ fn larger_sides(rows: usize, cols: usize, pads: Pads) -> bool
 }
 
 // How many cells the larger plane has.
-fn larger_cells(rows: usize, cols: usize, pads: Pads) -> usize
+pub fn larger_cells(rows: usize, cols: usize, pads: Pads) -> usize
     requires { ⌜ boardSides (newRows rows pads) (newCols cols pads) ≡ true ⌝ }
     ensures { λ r. ⌜ r ≡ newRows rows pads * newCols cols pads ⌝ }
 {

@@ -1,15 +1,15 @@
 -- Demand 3 of the listing program: its steps are the calls of a run from the fresh board, so the planes that it prints are what the pieces
 -- standing after them say. Step by step, then by the theorem on runs. Assumes nothing.
 use Prim.Native.Nat.{ℕ}
-use mathlib.Core.Path.{_≡_, refl, sym, _∙_, ap}
-use mathlib.Core.List.{List, [], _∷_, map}
+use mathlib.Core.Path.{_≡_, refl, sym, _∙_, ap, subst}
+use mathlib.Core.List.{List, [], _∷_, map, map-map}
 use Rattle.base.specs.Tables.{fold}
 use Rattle.rules.specs.Board.{Panel, shapeOf, Board, boardOf}
 use Rattle.rules.specs.Promises.{panel}
 use Rattle.rules.specs.declared.Offset.{Offset}
 use Rattle.stand.specs.Runs as Runs·
 use Rattle.stand.proofs.Flat.{flat-sound}
-use Rattle.stand.proofs.Stands.{pieces-stand, says-all}
+use Rattle.stand.proofs.Stands.{calls-stand}
 use Rattle.listing_job.specs.Form.{Step, lay, lift}
 use Rattle.listing_steps.specs.Steps.{placeAt, boardPast, boardIn}
 use Rattle.listing_text.specs.Printed.{freshFor}
@@ -19,12 +19,16 @@ abbrev callOf : ℕ → Step → Runs·.Call
 callOf count (lay row col colour) = Runs·.lay count (placeAt row col) colour
 callOf count (lift row col) = Runs·.lift count (placeAt row col)
 
+-- the acts of the steps
+abbrev actsOf : ℕ → List Step → List Runs·.Act
+actsOf count l = map (λ s. Runs·.call (callOf count s)) l
+
 step-is : (j : Panel) (count : ℕ) (b : Board) (s : Step) → boardPast j count b s ≡ Runs·.step j b (callOf count s)
 unfolding boardPast
 step-is j count b (lay row col colour) = refl
 step-is j count b (lift row col) = refl
 
-pub run-is : (j : Panel) (count : ℕ) (b : Board) (l : List Step) → boardIn j count b l ≡ Runs·.run j b (map (callOf count) l)
+run-is : (j : Panel) (count : ℕ) (b : Board) (l : List Step) → boardIn j count b l ≡ Runs·.run (record { panel = j; board = b }) (actsOf count l) .board
 unfolding boardIn Runs·.run fold
 run-is j count b [] = refl
 run-is j count b (s ∷ l) =
@@ -35,15 +39,23 @@ module _ (rows cols : ℕ) (tiles : List ℕ) (offset : Offset) (count : ℕ) (l
   abbrev j : Panel
   j = panel rows cols tiles offset
 
-  -- the pieces after the steps are those that the accepted ones say
-  pub printed-told : boardIn j count (freshFor j) l .pieces ≡ Runs·.told j (Runs·.acceptedIn j (freshFor j) (map (callOf count) l))
+  -- what the accepted steps say of the wall
+  abbrev said : List Runs·.Act → List ℕ
+  said acts = Runs·.piecesOn j (Runs·.told j (Runs·.acceptedIn (Runs·.start j) acts) .wall)
+
+  printed-are : boardIn j count (freshFor j) l ≡ boardOf (shapeOf j) tiles (said (actsOf count l))
   unfolding freshFor
-  printed-told = ap (λ (b : Board). b .pieces) (run-is j count (freshFor j) l) ∙ pieces-stand j (flat-sound rows cols) (map (callOf count) l)
+  printed-are =
+      run-is j count (freshFor j) l
+      ∙ subst (λ (acts : List Runs·.Act). Runs·.run (Runs·.start j) acts .board ≡ boardOf (shapeOf j) tiles (said acts)) (map-map Runs·.call (callOf count) l)
+      (calls-stand j flat-sound (map (callOf count) l))
+
+  -- the pieces after the steps are those that the accepted ones say
+  pub printed-told : boardIn j count (freshFor j) l .pieces
+      ≡ Runs·.piecesOn j (Runs·.told j (Runs·.acceptedIn (Runs·.start j) (map (λ s. Runs·.call (callOf count s)) l)) .wall)
+  unfolding boardOf
+  printed-told = ap (λ (b : Board). b .pieces) printed-are
 
   -- the planes after the steps are those that the standing pieces make
   pub printed-stands : boardIn j count (freshFor j) l ≡ boardOf (shapeOf j) tiles (boardIn j count (freshFor j) l .pieces)
-  unfolding freshFor
-  printed-stands =
-      run-is j count (freshFor j) l
-      ∙ says-all j (flat-sound rows cols) (map (callOf count) l)
-      ∙ ap (λ (b : Board). boardOf (shapeOf j) tiles (b .pieces)) (sym (run-is j count (freshFor j) l))
+  printed-stands = printed-are ∙ ap (boardOf (shapeOf j) tiles) (sym printed-told)

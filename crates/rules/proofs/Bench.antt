@@ -1,5 +1,5 @@
--- Document 01's bench cases marked P: one statement on one table, shown by evaluating the definitions. An answer is written as a list of
--- numbers: first the refusal's number, 0 where the call is accepted, then its values; a float is written by its bits.
+-- Document 01's bench cases marked P, and cases of document 02: one statement on one table, shown by evaluating the definitions. An answer is
+-- written as a list of numbers: first the refusal's number, 0 where the call is accepted, then its values; a float is written by its bits.
 -- Assumes nothing.
 use Prim.Native.Nat.{ℕ}
 use mathlib.Core.Path.{_≡_, refl}
@@ -7,25 +7,27 @@ use mathlib.Core.Bool.{Bool, true, false, _&&_}
 use lib.Dec.{eqb}
 use mathlib.Core.List.{List, [], _∷_, map}
 use lib.ListN.{getD, replicate}
-use lib.IntN.{pos, negsuc}
+use lib.IntN.{pos, negsuc, _+ℤ_}
 use lib.Ieee.{Float, binary64, ofBits, toBits, ofInt, lt, le, add, mul, div}
 use Rattle.base.specs.Counting.{every, some, sum, tally, first, within}
 use Rattle.base.specs.Tables.{tab, those, fold}
 use Rattle.base.specs.Refusal.{refusal}
 use Rattle.base.specs.Whole.{clip, withinZ}
 use Rattle.rules.specs.Tests.{boardSides, sampleSides, hasLength, tileNumberFits, wholeTiles, colourCount, noneAbove, piecesStored, onWall, offsetFits, onBoard}
-use Rattle.rules.specs.Places.{cellOf, spanOf, firstOf, lastOf, padBefore, padAfter, boxedBefore, boxedAfter, padsOf, boxedPads, extensionBy, extensionOf, boxedExtension}
+use Rattle.rules.specs.Places.{cellOf, spanOf, firstOf, lastOf, padBefore, padAfter, boxedBefore, boxedAfter, padsOf, boxedPads, extensionBy, extensionOf, boxedExtension, copiedCell, copied}
 use Rattle.rules.specs.Sets.{has, bitsOf, coloursOf, membersOf}
 use Rattle.rules.specs.Tiles.{sampleCell, windowTile, rotated, reflected, turned, form, variant, sameTile, hasTile, withTile, distinct, extracted, extraction, storeAfter, storeWith}
 use Rattle.rules.specs.Grid.{entryOrPast, flat}
 use Rattle.rules.specs.Fit.{agrees, fitsTile, fitCount, hasFitting, allows, leftAfter, listing}
 use Rattle.rules.specs.Forced.{neighbour, admits, boundsFit, forcesOne, isForced, forcedThere, forcedRound, padded, positionsOf, forcedNeighbours, deadAt, deadEnd}
 use Rattle.rules.specs.Probabilities.{largestOf, totalOf, normalised}
-use Rattle.rules.specs.Board.{Panel, Board, raised, lowered, recounted, laid, lifted, freshBoard, afterLay, afterLift}
-use Rattle.rules.specs.Promises.{panel}
+use Rattle.rules.specs.Board.{Panel, Board, weightsOf, countsOf, raised, lowered, recounted, laid, lifted, freshBoard, afterLay, afterLift}
+use Rattle.rules.specs.Widening.{widenedPieces, widenedWeights, widened, widening, afterWiden}
+use Rattle.rules.specs.Promises.{board, panel}
 use Rattle.rules.specs.declared.World.{World}
 use Rattle.rules.specs.declared.Offset.{Offset}
 use Rattle.rules.specs.declared.BoundingBox.{BoundingBox}
+use Rattle.rules.specs.declared.Pads.{Pads}
 use Rattle.rules.specs.declared.GenerationBounds.the-variants.{Unbounded}
 use Rattle.rules.specs.declared.ForcedPosition.{ForcedPosition}
 use Rattle.rules.specs.declared.ForcedAnswer.{ForcedAnswer}
@@ -35,6 +37,8 @@ use Rattle.rules.specs.declared.DeadEnd.{DeadEnd}
 use Rattle.rules.specs.declared.DeadEnd.the-variants as DeadEnd·
 use Rattle.rules.specs.declared.TileNumber.{TileNumber}
 use Rattle.rules.specs.declared.TileNumber.the-variants as TileNumber·
+use Rattle.rules.specs.declared.WidenAnswer.{WidenAnswer}
+use Rattle.rules.specs.declared.WidenAnswer.the-variants as WidenAnswer·
 use Rattle.rules.specs.declared.ExtensionAnswer.{ExtensionAnswer}
 use Rattle.rules.specs.declared.ExtensionAnswer.the-variants as ExtensionAnswer·
 
@@ -58,6 +62,11 @@ abbrev padded-by : ExtensionAnswer → List ℕ
 padded-by (ExtensionAnswer·.Extension e) =
     0 ∷ e .pads .left ∷ e .pads .right ∷ e .pads .top ∷ e .pads .bottom ∷ clip (e .offset .0) ∷ clip (e .offset .1) ∷ []
 padded-by (ExtensionAnswer·.Refused n) = n ∷ []
+
+-- the new offset, with a thousand added, since it is negative in these cases
+abbrev offset-of : WidenAnswer → List ℕ
+offset-of (WidenAnswer·.Widened o) = 0 ∷ clip (o .0 +ℤ pos 1000) ∷ clip (o .1 +ℤ pos 1000) ∷ []
+offset-of (WidenAnswer·.Refused n) = n ∷ []
 
 -- row, column and colour of each place; the coordinates are not negative in these cases
 abbrev spots : List ForcedPosition → List ℕ
@@ -109,6 +118,30 @@ listing-on b w = listing flat (b .pieces) 3 3 chequer 2 w origin
 
 abbrev box : BoundingBox
 box = record { min = record { 0 = negsuc 0; 1 = pos 0 }; max = at 9 9 }
+
+abbrev pads : ℕ → ℕ → ℕ → ℕ → Pads
+pads left right top bottom = record { left = left; right = right; top = top; bottom = bottom }
+
+-- a 1x1 panel with a piece, and the tile 112/111/111: the works' accident
+abbrev single : Panel
+single = panel 1 1 (1 ∷ 1 ∷ 2 ∷ 1 ∷ 1 ∷ 1 ∷ 1 ∷ 1 ∷ 1 ∷ []) origin
+
+abbrev placed : Board
+placed = afterLay single 2 (freshBoard 1 1) (at 0 0) 1
+
+-- a panel of two rows and one column, its weights by no rule
+abbrev narrow : Panel
+narrow = panel 2 1 chequer (record { 0 = pos 5; 1 = negsuc 2 })
+
+abbrev uneven : Board
+uneven = board (2 ∷ 1 ∷ []) (7 ∷ 0 ∷ []) (2 ∷ 2 ∷ [])
+
+-- so many lent entries a plane
+abbrev room : ℕ → Board
+room n = board (replicate n 0) (replicate n 0) (replicate n 0)
+
+abbrev grown : Board
+grown = afterWiden narrow 2 uneven (pads 1 0 2 1) (room 12)
 
 abbrev two64 : ℕ
 two64 = 0x4000_0000_0000_0000
@@ -162,6 +195,18 @@ table =
     -- Probabilities 2.0, 2.0 give 0.5 each; four zeros give 0.25 each
     ∷ case (bits-of (normalised (floats (two64 ∷ two64 ∷ [])))) (half64 ∷ half64 ∷ [])
     ∷ case (bits-of (normalised (floats (0 ∷ 0 ∷ 0 ∷ 0 ∷ [])))) (quarter64 ∷ quarter64 ∷ quarter64 ∷ quarter64 ∷ [])
+    -- Document 02, request 1. The accident: each new cell lies beside the piece, and its weight is 4
+    ∷ case (afterWiden single 2 placed (pads 1 1 1 1) (room 9) .weights) (4 ∷ 4 ∷ 4 ∷ 4 ∷ 4 ∷ 4 ∷ 4 ∷ 4 ∷ 4 ∷ [])
+    -- one row before, two columns before and one behind: old weights are kept, new ones and all counts are what the piece says
+    ∷ case (grown .pieces) (1 ∷ 1 ∷ 1 ∷ 1 ∷ 1 ∷ 1 ∷ 2 ∷ 1 ∷ 1 ∷ 1 ∷ 1 ∷ 1 ∷ [])
+    ∷ case (grown .weights) (2 ∷ 4 ∷ 4 ∷ 4 ∷ 2 ∷ 4 ∷ 7 ∷ 4 ∷ 2 ∷ 4 ∷ 0 ∷ 4 ∷ [])
+    ∷ case (grown .counts) (1 ∷ 1 ∷ 2 ∷ 2 ∷ 2 ∷ 2 ∷ 2 ∷ 2 ∷ 2 ∷ 2 ∷ 2 ∷ 2 ∷ [])
+    -- the offset (5, -3) becomes (6, -1)
+    ∷ case (offset-of (widening narrow 2 uneven (pads 1 0 2 1) (room 12))) (0 ∷ 1006 ∷ 999 ∷ [])
+    -- a new side of 65, lent planes one entry short, and an offset moved past its bound
+    ∷ case (offset-of (widening narrow 2 uneven (pads 0 63 0 0) (room 65))) (1 ∷ [])
+    ∷ case (offset-of (widening narrow 2 uneven (pads 1 0 2 1) (room 11))) (2 ∷ [])
+    ∷ case (offset-of (widening (panel 2 1 chequer (record { 0 = pos 1000000; 1 = pos 0 })) 2 uneven (pads 1 0 2 1) (room 12))) (6 ∷ [])
     ∷ []
 
 -- a case holds where what is got is what is due
@@ -176,5 +221,5 @@ hold [] = true
 hold (x ∷ xs) = same (x .got) (x .due) && hold xs
 
 pub bench : hold table ≡ true
-unfolding hold same table every some sum tally first within tab those fold refusal withinZ boardSides sampleSides hasLength tileNumberFits wholeTiles colourCount noneAbove piecesStored onWall offsetFits onBoard cellOf spanOf firstOf lastOf padBefore padAfter boxedBefore boxedAfter padsOf boxedPads extensionBy extensionOf boxedExtension has bitsOf coloursOf sampleCell windowTile rotated reflected turned form variant sameTile hasTile withTile distinct extracted extraction storeAfter storeWith entryOrPast flat agrees fitsTile fitCount hasFitting allows leftAfter listing neighbour admits boundsFit forcesOne isForced forcedThere forcedRound padded positionsOf forcedNeighbours deadAt deadEnd largestOf totalOf normalised raised lowered recounted laid lifted freshBoard afterLay afterLift lt le add mul div ofBits ofInt toBits
+unfolding hold same table every some sum tally first within tab those fold refusal withinZ boardSides sampleSides hasLength tileNumberFits wholeTiles colourCount noneAbove piecesStored onWall offsetFits onBoard cellOf spanOf firstOf lastOf padBefore padAfter boxedBefore boxedAfter padsOf boxedPads extensionBy extensionOf boxedExtension has bitsOf coloursOf sampleCell windowTile rotated reflected turned form variant sameTile hasTile withTile distinct extracted extraction storeAfter storeWith entryOrPast flat agrees fitsTile fitCount hasFitting allows leftAfter listing neighbour admits boundsFit forcesOne isForced forcedThere forcedRound padded positionsOf forcedNeighbours deadAt deadEnd largestOf totalOf normalised weightsOf countsOf raised lowered recounted laid lifted freshBoard afterLay afterLift copiedCell copied widenedPieces widenedWeights widened afterWiden lt le add mul div ofBits ofInt toBits
 bench = refl

@@ -3,4 +3,5 @@ pub mod Answered
 pub mod Lowest
 pub mod Shares
 pub mod Fitting
+pub mod Copying
 pub mod Floats

@@ -34,6 +34,9 @@ use Rattle.rules.specs.declared.LayAnswer.{LayAnswer}
 use Rattle.rules.specs.declared.LayAnswer.the-variants as LayAnswer·
 use Rattle.rules.specs.declared.LiftAnswer.{LiftAnswer}
 use Rattle.rules.specs.declared.LiftAnswer.the-variants as LiftAnswer·
+use Rattle.rules.specs.declared.Offset.{Offset}
+use Rattle.rules.specs.declared.WidenAnswer.{WidenAnswer}
+use Rattle.rules.specs.declared.WidenAnswer.the-variants as WidenAnswer·
 
 abbrev pub spanAnswer : ℕ → Span → Span → SpanAnswer
 spanAnswer zero r c = SpanAnswer·.Spans r c
@@ -78,6 +81,10 @@ layAnswer (suc n) = LayAnswer·.Refused (suc n)
 abbrev pub liftAnswer : ℕ → LiftAnswer
 liftAnswer zero = LiftAnswer·.Lifted
 liftAnswer (suc n) = LiftAnswer·.Refused (suc n)
+
+abbrev pub widenAnswer : ℕ → Offset → WidenAnswer
+widenAnswer zero offset = WidenAnswer·.Widened offset
+widenAnswer (suc n) offset = WidenAnswer·.Refused (suc n)
 
 -- where a dead end is, if there is one
 abbrev pub deadEndAnswer : ℕ → Bool → Cell → DeadEnd

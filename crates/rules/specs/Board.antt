@@ -94,13 +94,15 @@ freshBoard cells tiles =
 
 -- ---- the calls
 
--- the sides of a board, and the lengths of its planes
+-- the lengths of the planes of a board of so many cells; and the sides of a board before them
+abbrev pub planeLengths : ℕ → Board → Checks
+planeLengths cells b =
+    LENGTH unless hasLength (b .pieces) cells
+    then LENGTH unless hasLength (b .weights) cells
+    then LENGTH unless hasLength (b .counts) cells
+
 abbrev pub boardLengths : ℕ → ℕ → Board → Checks
-boardLengths rows cols b =
-    SHAPE unless boardSides rows cols
-    then LENGTH unless hasLength (b .pieces) (rows * cols)
-    then LENGTH unless hasLength (b .weights) (rows * cols)
-    then LENGTH unless hasLength (b .counts) (rows * cols)
+boardLengths rows cols b = SHAPE unless boardSides rows cols then planeLengths (rows * cols) b
 
 -- what its planes and tiles hold, of which there are n
 abbrev pub boardContents : List ℕ → ℕ → Board → ℕ → Checks

@@ -11,4 +11,5 @@ pub mod Floats
 pub mod Scores
 pub mod Probabilities
 pub mod Board
+pub mod Widening
 pub mod Promises

@@ -14,6 +14,7 @@ use Rattle.rules.specs.Tiles.{extraction, storeAfter}
 use Rattle.rules.specs.Scores.{layScores, liftScores, layScoreChecks, liftScoreChecks}
 use Rattle.rules.specs.Probabilities.{Block, probabilitiesAt, normalised, normaliseChecks, multiplied, divided, influenceChecks}
 use Rattle.rules.specs.Board.{Panel, Board, laying, afterLay, lifting, afterLift, freshBoard, freshChecks, raised, lowered, weightChecks, recounted, recountChecks}
+use Rattle.rules.specs.Widening.{widening, afterWiden}
 use Rattle.rules.specs.declared.World.{World}
 use Rattle.rules.specs.declared.Offset.{Offset}
 use Rattle.rules.specs.declared.Span.{Span}
@@ -22,6 +23,7 @@ use Rattle.rules.specs.declared.Written.{Written}
 use Rattle.rules.specs.declared.TileNumber.{TileNumber}
 use Rattle.rules.specs.declared.LayAnswer.{LayAnswer}
 use Rattle.rules.specs.declared.LiftAnswer.{LiftAnswer}
+use Rattle.rules.specs.declared.WidenAnswer.{WidenAnswer}
 
 -- ---- lent memory
 
@@ -103,3 +105,7 @@ Lays j count place colour old = Gives (laying j count old place colour) (afterLa
 
 abbrev pub Lifts : Panel → ℕ → World → Board → LiftAnswer → Board → Type 0
 Lifts j count place old = Gives (lifting j count old place) (afterLift j count old place)
+
+-- the board of a panel into three larger planes
+abbrev pub Widens : Panel → ℕ → Pads → Board → Board → WidenAnswer → Board → Type 0
+Widens j count p old lent = Gives (widening j count old p lent) (afterWiden j count old p lent)

@@ -185,6 +185,12 @@ pub enum LiftAnswer {
     Refused(u8),
 }
 
+// The offset of the widened panel.
+pub enum WidenAnswer {
+    Widened(Offset),
+    Refused(u8),
+}
+
 // An enum holds no array, so these stand beside the number; refused is 0 where the call is accepted.
 
 pub struct ColourList {

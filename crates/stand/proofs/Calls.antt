@@ -1,17 +1,19 @@
--- One call on a board that is what its pieces say: when it is accepted, and what it leaves.
+-- One call, and one widening, on a board that is what its pieces say: when it is accepted, and what a call leaves.
 --     accepts, taken    a call is accepted exactly where its place fits and its own test passes
---     step-is           it leaves a board that is what its pieces say, and the pieces are what it says
---     fresh-good, moved-good   what holds of the pieces from the fresh board on
+--     widen-accepts, widen-taken    and a widening exactly where the sides, the offset and the lent planes fit
+--     changed-is        an accepted call leaves a board that is what its pieces say, and the pieces are what it says
+--     fresh-of          a fresh board is what bare pieces say
+--     nothing-good, puts-good, puts-stored    what holds of the pieces from the fresh board on
 -- Assumes nothing.
-use Prim.Native.Nat.{ℕ, zero, suc, _+_, _*_, _<_, _≤_}
-use mathlib.Core.Path.{_≡_, refl, sym, _∙_, subst}
-use mathlib.Core.Bool.{true, false, not}
+use Prim.Native.Nat.{ℕ, _+_, _*_, _<_, _≤_}
+use mathlib.Core.Path.{_≡_, refl, sym, _∙_, ap, subst}
+use mathlib.Core.Bool.{true, not}
 use mathlib.Core.List.{List}
 use native.Mathlib.Omega.{arith}
 use lib.Dec.{ltb, eqb}
 use lib.ListN.{length, getD, set, length-set}
 use lib.Seq.{getD-set-same, getD-set-other}
-use borrow.Author.Tests.{leb-true, le-leb, eq-eqb, eqb-true, eqb-false, not-true, le-ltb}
+use borrow.Author.Tests.{leb-true, le-leb, eq-eqb, eqb-true, eqb-false, not-true}
 use Rattle.base.specs.Counting.{within}
 use Rattle.base.specs.Tables.{tab}
 use Rattle.base.specs.Refusal.{Checks, _unless_, _then_, refusal, unlessRefused}
@@ -24,24 +26,27 @@ use Rattle.rules.specs.Bounds.{maxColours, bare, maxBoardSide, maxWeight, TYPE,
 use Rattle.rules.specs.Tests.{boardSides, hasLength, wholeTiles, tilesIn, colourCount, noneAbove, entryUpTo, piecesStored, pieceStored, offsetFits}
 use Rattle.rules.specs.Grid.{laidOn}
 use Rattle.rules.specs.Fit.{placeChecks}
-use Rattle.rules.specs.Board.{Panel, shapeOf, entryIn, Board, weightsOf, countsOf, boardOf, laid, boardChecks, afterLay, afterLift}
+use Rattle.rules.specs.Places.{newRows, newCols}
+use Rattle.rules.specs.Board.{Panel, shapeOf, entryIn, Board, weightsOf, countsOf, boardOf, laid, lifted, planeLengths, boardContents, boardChecks, afterLay, afterLift}
+use Rattle.rules.specs.Widening.{wider, widenChecks}
 use Rattle.rules.specs.declared.World.{World}
-use Rattle.stand.specs.Runs.{Call, lay, lift, placeOf, countOf, refusalOf, step, says}
-use Rattle.stand.proofs.Shared.{Sound, laid-is, lifted-is, bare-off, weight-low, count-low}
+use Rattle.rules.specs.declared.Pads.{Pads}
+use Rattle.stand.specs.Runs.{fresh, Call, lay, lift, placeOf, countOf, refusalOf, step}
+use Rattle.stand.proofs.Shared.{Sound, laid-is, lifted-is, fresh-is, weights-long, counts-long, weight-low, count-low}
 use Rattle.stand.proofs.Walls.{On, cell-in, Sides, sides-in}
 
 -- ---- when a call is accepted
 
--- what stays fixed is within its bounds
+-- what stays fixed from call to call is within its bounds
 pub record InBounds (j : Panel) : Type 0 where
   pub sides : boardSides (j .rows) (j .cols) ≡ true
   pub whole : wholeTiles (j .tiles) ≡ true
   pub offset : offsetFits (j .offset) ≡ true
 
 -- so many colours may be named: they are in bounds, and have those of the tiles
-pub record Named (j : Panel) (count : ℕ) : Type 0 where
+pub record Named (tiles : List ℕ) (count : ℕ) : Type 0 where
   pub within : colourCount count ≡ true
-  pub cells : noneAbove (j .tiles) count ≡ true
+  pub cells : noneAbove tiles count ≡ true
 
 -- what a call asks of its cell, which stores x: a colour of the count on a bare cell, or a piece to lift
 abbrev pub ownChecks : ℕ → Call → Checks
@@ -54,7 +59,7 @@ cellBy j c = entryIn j (placeOf c)
 
 pub record Taken (j : Panel) (p : List ℕ) (c : Call) : Type 0 where
   pub panel : InBounds j
-  pub named : Named j (countOf c)
+  pub named : Named (j .tiles) (countOf c)
   pub stored : piecesStored p (countOf c) ≡ true
   pub on : On j (placeOf c)
   pub own : Passes (ownChecks (getD p (cellBy j c) 0) c)
@@ -75,11 +80,25 @@ accepts j b c e =
     let h = all-pass (checksOf j b c) (as-checks j b c .1) (sym (as-checks j b c .0) ∙ e) in
     record { panel = search; named = search; stored = search; on = search; own = search }
 
+-- a widening is accepted
+pub record Widening (j : Panel) (pieces : List ℕ) (count : ℕ) (p : Pads) (lent : Board) : Type 0 where
+  pub panel : InBounds j
+  pub wide : InBounds (wider j p)
+  pub named : Named (j .tiles) count
+  pub stored : piecesStored pieces count ≡ true
+  pub lengths : Passes (planeLengths (newRows (j .rows) p * newCols (j .cols) p) lent)
+
+pub widen-accepts : (j : Panel) (b : Board) (count : ℕ) (p : Pads) (lent : Board) → refusal (widenChecks j count b p lent) ≡ 0
+    → Widening j (b .pieces) count p lent
+widen-accepts j b count p lent e =
+    let h = all-pass (widenChecks j count b p lent) refl e in
+    record { panel = search; wide = search; named = search; stored = search; lengths = search }
+
 -- what holds of the pieces of every run: each is bare or a colour, and where one stands the panel was in bounds
 pub record Good (j : Panel) (p : List ℕ) : Type 0 where
   pub long : length p ≡ j .rows * j .cols
   pub coloured : (k : ℕ) → k < j .rows * j .cols → within 1 (maxColours + 1) (getD p k 0) ≡ true
-  pub backed : (k : ℕ) → laidOn p k ≡ true → InBounds j × Named j maxColours
+  pub backed : (k : ℕ) → k < j .rows * j .cols → laidOn p k ≡ true → InBounds j × Named (j .tiles) maxColours
 
 -- a plane that the pieces make has its length, and passes the CELL tests
 low-plane : (plane : List ℕ) (most : ℕ) → ((k : ℕ) → getD plane k 0 ≤ most) → noneAbove plane most ≡ true
@@ -96,17 +115,38 @@ module _ (j : Panel) where
   abbrev pub ofPieces : List ℕ → Board
   ofPieces p = boardOf (shapeOf j) (j .tiles) p
 
-  pub taken : (p : List ℕ) (c : Call) → Good j p → Taken j p c → refusalOf j (ofPieces p) c ≡ 0
-  unfolding boardOf weightsOf countsOf hasLength
-  taken p c good t =
-      let long : eqb (length p) (j .rows * j .cols) ≡ true = eq-eqb _ _ (good .long) in
-      let weighed : eqb (length (weightsOf (shapeOf j) p)) (j .rows * j .cols) ≡ true = eq-eqb _ _ (length-tab (length p) _ ∙ good .long) in
-      let counted : eqb (length (countsOf (shapeOf j) (j .tiles) p)) (j .rows * j .cols) ≡ true = eq-eqb _ _ (length-tab (length p) _ ∙ good .long) in
-      let light : noneAbove (weightsOf (shapeOf j) p) maxWeight ≡ true =
-      low-plane _ maxWeight (λ k. few-pieces (sides-in (j .rows) (j .cols) (t .panel .sides)) (good .long) (weight-low (shapeOf j) p k)) in
-      let few : noneAbove (countsOf (shapeOf j) (j .tiles) p) (tilesIn (j .tiles)) ≡ true = low-plane _ (tilesIn (j .tiles)) (count-low (shapeOf j) (j .tiles) p) in
-      let y : Passes (checksOf j (ofPieces p) c) = search in
-      as-checks j (ofPieces p) c .0 ∙ none-fails _ y
+  module _ (p : List ℕ) (good : Good j p) where
+    lengths-pass : Passes (planeLengths (j .rows * j .cols) (ofPieces p))
+    unfolding boardOf hasLength
+    lengths-pass = (
+      eq-eqb _ _ (good .long),
+      (eq-eqb _ _ (weights-long (shapeOf j) p ∙ good .long), eq-eqb _ _ (counts-long (shapeOf j) (j .tiles) p ∙ good .long)),
+    )
+
+    contents-pass : (count : ℕ) → InBounds j → Named (j .tiles) count → piecesStored p count ≡ true
+        → Passes (boardContents (j .tiles) count (ofPieces p) (tilesIn (j .tiles)))
+    unfolding boardOf
+    contents-pass count panel named stored =
+        let light : noneAbove (weightsOf (shapeOf j) p) maxWeight ≡ true =
+        low-plane _ maxWeight (λ k. few-pieces (sides-in (j .rows) (j .cols) (panel .sides)) (good .long) (weight-low (shapeOf j) p k)) in
+        let few : noneAbove (countsOf (shapeOf j) (j .tiles) p) (tilesIn (j .tiles)) ≡ true = low-plane _ (tilesIn (j .tiles)) (count-low (shapeOf j) (j .tiles) p) in
+        ((named .within, (named .cells, stored)), (light, few))
+
+    pub taken : (c : Call) → Taken j p c → refusalOf j (ofPieces p) c ≡ 0
+    unfolding boardOf
+    taken c t =
+        as-checks j (ofPieces p) c .0
+        ∙ none-fails (checksOf j (ofPieces p) c) (
+          ((t .panel .sides, lengths-pass), (t .panel .whole, contents-pass (countOf c) (t .panel) (t .named) (t .stored))),
+          ((t .on .wall, (t .panel .offset, t .on .board)), t .own),
+        )
+
+    pub widen-taken : (count : ℕ) (q : Pads) (lent : Board) → Widening j p count q lent → refusal (widenChecks j count (ofPieces p) q lent) ≡ 0
+    widen-taken count q lent t =
+        none-fails (widenChecks j count (ofPieces p) q lent) (
+          t .panel .sides,
+          (t .wide .sides, (lengths-pass, (t .panel .whole, (t .lengths, (contents-pass count (t .panel) (t .named) (t .stored), (t .panel .offset, t .wide .offset)))))),
+        )
 
   -- what a call finds on its cell, and that it names the colours of all, is what it asks of the pieces
   pub other : (q r : List ℕ) (c : Call) → piecesStored r (countOf c) ≡ true → getD r (cellBy j c) 0 ≡ getD q (cellBy j c) 0 → Taken j q c → Taken j r c
@@ -115,17 +155,30 @@ module _ (j : Panel) where
 
 -- ---- what a call leaves
 
-through : {A B : Type 0} (n : ℕ) (f : A → B) (new : B) (q p : A) → (n ≡ 0 → new ≡ f q) → unlessRefused n new (f p) ≡ f (unlessRefused n q p)
-through zero f new q p h = h refl
-through (suc n) f new q p h = refl
+-- what an accepted call stores in its cell, and the pieces then
+abbrev pub putBy : Call → ℕ
+putBy (lay count w colour) = colour + 1
+putBy (lift count w) = bare
 
--- what holds of the old value, and of the new one where the call is accepted, holds of what is left
-pub either : {A : Type 0} {new old : A} (P : A → Type 0) (n : ℕ) → (n ≡ 0 → P new) → P old → P (unlessRefused n new old)
-either P zero f h = f refl
-either P (suc n) f h = h
+abbrev pub puts : Panel → List ℕ → Call → List ℕ
+puts j p c = set p (cellBy j c) (putBy c)
+
+-- the board of an accepted call
+abbrev pub changed : Panel → Board → Call → Board
+changed j b (lay count w colour) = laid (shapeOf j) (j .tiles) b (entryIn j w) colour
+changed j b (lift count w) = lifted (shapeOf j) (j .tiles) b (entryIn j w)
+
+pub step-by : (j : Panel) (b : Board) (c : Call) → step j b c ≡ unlessRefused (refusalOf j b c) (changed j b c) b
+unfolding afterLay afterLift
+step-by j b (lay count w colour) = refl
+step-by j b (lift count w) = refl
+
+put-some : (c : Call) → 1 ≤ putBy c
+put-some (lay count w colour) = omega arith
+put-some (lift count w) = omega arith
 
 -- pieces that have colours of the count, and one more of them
-pub put-stored : (p : List ℕ) (count k v : ℕ) → piecesStored p count ≡ true → 1 ≤ v → v ≤ count + 1 → piecesStored (set p k v) count ≡ true
+put-stored : (p : List ℕ) (count k v : ℕ) → piecesStored p count ≡ true → 1 ≤ v → v ≤ count + 1 → piecesStored (set p k v) count ≡ true
 unfolding piecesStored
 put-stored p count k v s low high =
     every-is (pieceStored (set p k v) count) (length (set p k v))
@@ -138,93 +191,70 @@ put-stored p count k v s low high =
     rw (same, getD-set-same p k v 0 k<) (within-is 1 (count + 1) v low high))
     (λ e. rw (getD-set-other p k i v 0 (eqb-false i k e)) (every-at (pieceStored p count) (length p) s i in-p)))
 
+-- a count that may be named is at most the largest, which may be named then too
+few : {tiles : List ℕ} (count : ℕ) → Named tiles count → count ≤ maxColours
+unfolding colourCount
+few count n = within-high 1 maxColours count (n .within)
+
+pub largest : {tiles : List ℕ} (count : ℕ) → Named tiles count → Named tiles maxColours
+unfolding noneAbove colourCount
+largest {tiles} count n =
+    record {
+      within = within-is 1 maxColours maxColours (omega arith) (omega arith);
+      cells =
+          every-is (entryUpTo tiles maxColours) (length tiles)
+          (λ k k<.
+          le-leb (getD tiles k 0) maxColours
+          (omega (arith, few count n, leb-true (getD tiles k 0) count (every-at (entryUpTo tiles count) (length tiles) (n .cells) k k<))));
+    }
+
 module _ (j : Panel) where
-  -- the pieces after a call
-  abbrev pub moved : List ℕ → Call → List ℕ
-  moved p c = unlessRefused (refusalOf j (ofPieces j p) c) (says j p c) p
+  cell-of-pieces : (p : List ℕ) (w : World) → Good j p → On j w → entryIn j w < length p
+  cell-of-pieces p w good on = omega (arith, good .long, cell-in j w (on .board))
 
-  cell-of-pieces : (p : List ℕ) {w : World} → Good j p → On j w → entryIn j w < length p
-  cell-of-pieces p good on = omega (arith, good .long, cell-in j on)
+  pub changed-is : Sound (shapeOf j) → (p : List ℕ) (c : Call) → Good j p → Taken j p c → changed j (ofPieces j p) c ≡ ofPieces j (puts j p c)
+  changed-is sound p (lay count w colour) good t =
+      laid-is (shapeOf j) sound (j .tiles) p (entryIn j w) colour (cell-of-pieces p w good (t .on)) (not-true _ (t .own .1)) (within-low 1 count colour (t .own .0))
+  changed-is sound p (lift count w) good t = lifted-is (shapeOf j) sound (j .tiles) p (entryIn j w) (cell-of-pieces p w good (t .on)) (t .own)
 
-  -- the rule of lay on a board that is what its pieces say
-  pub laid-of : Sound (shapeOf j) → (p : List ℕ) (count : ℕ) (w : World) (colour : ℕ) → Good j p → Taken j p (lay count w colour)
-      → laid (shapeOf j) (j .tiles) (ofPieces j p) (entryIn j w) colour ≡ ofPieces j (says j p (lay count w colour))
-  laid-of sound p count w colour good t =
-      laid-is (shapeOf j) sound (j .tiles) p (entryIn j w) colour (cell-of-pieces p good (t .on)) (not-true _ (t .own .1)) (within-low 1 count colour (t .own .0))
+  -- an accepted call stores bare or a colour of its count
+  pub put-low : (p : List ℕ) (c : Call) → Taken j p c → putBy c ≤ countOf c + 1
+  put-low p (lay count w colour) t = omega (arith, within-high 1 count colour (t .own .0))
+  put-low p (lift count w) t = omega arith
 
-  pub step-is : Sound (shapeOf j) → (p : List ℕ) (c : Call) → Good j p → step j (ofPieces j p) c ≡ ofPieces j (moved p c)
-  unfolding afterLay afterLift boardOf
-  step-is sound p (lay count w colour) good =
-      through (refusalOf j (ofPieces j p) (lay count w colour)) (ofPieces j) _ _ p
-      (λ e. laid-of sound p count w colour good (accepts j (ofPieces j p) (lay count w colour) e))
-  step-is sound p (lift count w) good =
-      through (refusalOf j (ofPieces j p) (lift count w)) (ofPieces j) _ _ p
-      (λ e.
-      let t = accepts j (ofPieces j p) (lift count w) e in
-      lifted-is (shapeOf j) sound (j .tiles) p (entryIn j w) (cell-of-pieces p good (t .on)) (t .own))
+  pub put-coloured : (p : List ℕ) (c : Call) → Taken j p c → within 1 (maxColours + 1) (putBy c) ≡ true
+  put-coloured p c t = within-is 1 (maxColours + 1) (putBy c) (put-some c) (omega (arith, put-low p c t, few (countOf c) (t .named)))
 
   -- ---- what holds of the pieces from the fresh board on
 
   abbrev pub nothing : List ℕ
   nothing = tab (j .rows * j .cols) (λ k. bare)
 
-  pub fresh-good : Good j nothing
-  fresh-good =
+  pub fresh-of : fresh j ≡ ofPieces j nothing
+  fresh-of = fresh-is (shapeOf j) (j .tiles) (j .rows * j .cols)
+
+  pub nothing-good : Good j nothing
+  nothing-good =
       record {
         long = length-tab (j .rows * j .cols) (λ k. bare);
         coloured = λ k k<. rw (getD-tab (j .rows * j .cols) (λ i. bare) k 0 k<) (within-is 1 (maxColours + 1) 1 (omega arith) (omega arith));
-        backed = λ k e. never (laidOn nothing k) e (le-ltb 1 (getD nothing k 0) (bare-off (j .rows * j .cols) k));
+        backed = λ k k< e. never (laidOn nothing k) e (ap (λ (x : ℕ). ltb 1 x) (getD-tab (j .rows * j .cols) (λ i. bare) k 0 k<));
       }
 
-  put-good : (p : List ℕ) (k v : ℕ) → Good j p → InBounds j × Named j maxColours → k < j .rows * j .cols → 1 ≤ v → v ≤ maxColours + 1
-      → Good j (set p k v)
-  put-good p k v good back k< low high =
+  pub puts-good : (p : List ℕ) (c : Call) → Good j p → Taken j p c → Good j (puts j p c)
+  puts-good p c good t =
       record {
-        long = length-set p k v ∙ good .long;
+        long = length-set p (cellBy j c) (putBy c) ∙ good .long;
         coloured =
             λ i i<.
-            by-test (eqb i k)
+            by-test (eqb i (cellBy j c))
             (λ e.
-            let same : i ≡ k = eqb-true i k e in
-            rw (same, getD-set-same p k v 0 (omega (arith, good .long))) (within-is 1 (maxColours + 1) v low high))
-            (λ e. rw (getD-set-other p k i v 0 (eqb-false i k e)) (good .coloured i i<));
-        backed = λ i e. back;
+            let same : i ≡ cellBy j c = eqb-true i (cellBy j c) e in
+            rw (same, getD-set-same p (cellBy j c) (putBy c) 0 (cell-of-pieces p (placeOf c) good (t .on))) (put-coloured p c t))
+            (λ e. rw (getD-set-other p (cellBy j c) i (putBy c) 0 (eqb-false i (cellBy j c) e)) (good .coloured i i<));
+        backed = λ i i< e. (t .panel, largest (countOf c) (t .named));
       }
-
-  -- a count that may be named is at most the largest, which may be named then too
-  few : (count : ℕ) → Named j count → count ≤ maxColours
-  unfolding colourCount
-  few count n = within-high 1 maxColours count (n .within)
-
-  largest : (count : ℕ) → Named j count → Named j maxColours
-  unfolding noneAbove colourCount
-  largest count n =
-      record {
-        within = within-is 1 maxColours maxColours (omega arith) (omega arith);
-        cells =
-            every-is (entryUpTo (j .tiles) maxColours) (length (j .tiles))
-            (λ k k<.
-            le-leb (getD (j .tiles) k 0) maxColours
-            (omega (arith, few count n, leb-true (getD (j .tiles) k 0) count (every-at (entryUpTo (j .tiles) count) (length (j .tiles)) (n .cells) k k<))));
-      }
-
-  pub says-good : (p : List ℕ) (c : Call) → Good j p → Taken j p c → Good j (says j p c)
-  says-good p (lay count w colour) good t =
-      put-good p (entryIn j w) (colour + 1) good (t .panel, largest count (t .named)) (cell-in j (t .on)) (omega arith)
-      (omega (arith, few count (t .named), within-high 1 count colour (t .own .0)))
-  says-good p (lift count w) good t = put-good p (entryIn j w) bare good (t .panel, largest count (t .named)) (cell-in j (t .on)) (omega arith) (omega arith)
-
-  pub moved-good : (p : List ℕ) (c : Call) → Good j p → Good j (moved p c)
-  unfolding boardOf
-  moved-good p c good = either (Good j) (refusalOf j (ofPieces j p) c) (λ e. says-good p c good (accepts j (ofPieces j p) c e)) good
 
   -- a call leaves colours of the count that it names where it found such
-  pub says-stored : (p : List ℕ) (c : Call) → Taken j p c → piecesStored (says j p c) (countOf c) ≡ true
-  says-stored p (lay count w colour) t =
-      put-stored p count (entryIn j w) (colour + 1) (t .stored) (omega arith) (omega (arith, within-high 1 count colour (t .own .0)))
-  says-stored p (lift count w) t = put-stored p count (entryIn j w) bare (t .stored) (omega arith) (omega arith)
-
-  pub moved-stored : (p : List ℕ) (c : Call) → piecesStored p (countOf c) ≡ true → piecesStored (moved p c) (countOf c) ≡ true
-  unfolding boardOf
-  moved-stored p c s =
-      either (λ q. piecesStored q (countOf c) ≡ true) (refusalOf j (ofPieces j p) c) (λ e. says-stored p c (accepts j (ofPieces j p) c e)) s
+  pub puts-stored : (p : List ℕ) (c : Call) → Taken j p c → piecesStored (puts j p c) (countOf c) ≡ true
+  puts-stored p c t = put-stored p (countOf c) (cellBy j c) (putBy c) (t .stored) (put-some c) (put-low p c t)

@@ -1,7 +1,11 @@
 pub mod Shared
+pub mod Moved
+pub mod Widened
 pub mod Flat
 pub mod Walls
+pub mod Kept
 pub mod Calls
+pub mod Plans
 pub mod Stands
 pub mod Order
 pub mod Never

@@ -1,6 +1,7 @@
--- "So the board equals one where only the standing pieces were laid, in any order": for any run, and any order of the pieces that stand after
--- it, laid on a fresh board by the rule of lay they leave the board of the run (any-order); and so they do by the call, each lay accepted, if
--- all name the largest number of colours (any-order-laid), or any number in bounds that has those of the tiles and the pieces (any-order-named).
+-- "So the board equals one where only the standing pieces were laid, in any order": for any run, widenings included, and any order of the
+-- pieces that stand after it, laid on a fresh board of the last panel by the rule of lay they leave the board of the run (any-order); and so
+-- they do by the call, each lay accepted, if all name the largest number of colours (any-order-laid), or any number in bounds that has those
+-- of the tiles and the pieces (any-order-named).
 -- Laid row by row they leave the plane bit by bit; two neighbours in the list lie on two cells, so they can change places. Assumes nothing.
 use Prim.Native.Nat.{ℕ, zero, suc, _+_, _*_, _<_, _≤_}
 use mathlib.Core.Path.{_≡_, refl, sym, _∙_, ap, subst}
@@ -24,13 +25,21 @@ use Rattle.base.proofs.Tabled.{length-tab, getD-tab, is-tab}
 use Rattle.base.proofs.Swept.{swept, swept-none, swept-above, swept-turn, swept-skip, swept-all}
 use Rattle.rules.specs.Bounds.{maxColours, bare}
 use Rattle.rules.specs.Tests.{colourCount, noneAbove, piecesStored, pieceStored}
-use Rattle.rules.specs.Grid.{laidOn, colourOn}
+use Rattle.rules.specs.Grid.{Kind, laidOn, colourOn}
 use Rattle.rules.specs.Board.{Panel, shapeOf, entryIn, Board}
-use Rattle.stand.specs.Runs.{fresh, Call, lay, refusalOf, step, run, acceptedIn, says, Piece, wallOf, standing, Reordered, none, keep, swap, twice, laidAll, lays}
-use Rattle.stand.proofs.Shared.{Sound}
+use Rattle.stand.specs.Runs.{State, fresh, start, Call, lay, Act, call, refusalOf, step, run, acceptedIn, Piece, wallOf, standing, Reordered, none, keep, swap, twice, laidAll, lays}
+use Rattle.stand.proofs.Shared.{Sound, SoundKind}
 use Rattle.stand.proofs.Walls.{cell-in, sides-in, wall-on, wall-cell}
-use Rattle.stand.proofs.Calls.{InBounds, Named, Taken, other, taken, Good, ofPieces, laid-of, step-is, nothing, fresh-good, says-good, says-stored}
-use Rattle.stand.proofs.Stands.{fresh-of, says-all, pieces-good}
+use Rattle.stand.proofs.Calls.{InBounds, Named, Taken, other, taken, Good, ofPieces, puts, changed, step-by, changed-is, nothing, fresh-of, nothing-good, puts-good, puts-stored}
+use Rattle.stand.proofs.Stands.{Widenable, kind-stays, says-all, pieces-good}
+
+-- where a piece stands, so many colours may be named of the tiles and the pieces
+abbrev May : Panel → List ℕ → ℕ → Type 0
+May j p count = (k : ℕ) → k < j .rows * j .cols → laidOn p k ≡ true → Named (j .tiles) count × (piecesStored p count ≡ true)
+
+-- a panel with the board that its pieces say
+abbrev withPieces : Panel → List ℕ → State
+withPieces j p = record { panel = j; board = ofPieces j p }
 
 module _ (j : Panel) (count : ℕ) where
   abbrev laying : Piece → Call
@@ -42,16 +51,16 @@ module _ (j : Panel) (count : ℕ) where
   -- each of these lays is taken, from the pieces q on, and they leave the pieces r
   abbrev Lays : List ℕ → List Piece → List ℕ → Type 0
   Lays q [] r = q ≡ r
-  Lays q (x ∷ xs) r = Taken j q (laying x) × Lays (says j q (laying x)) xs r
+  Lays q (x ∷ xs) r = Taken j q (laying x) × Lays (puts j q (laying x)) xs r
 
   then-lays : (q : List ℕ) (xs : List Piece) (r : List ℕ) (ys : List Piece) (s : List ℕ) → Lays q xs r → Lays r ys s → Lays q (xs ++ ys) s
   then-lays q [] r ys s e l = subst (λ (m : List ℕ). Lays m ys s) (sym e) l
-  then-lays q (x ∷ xs) r ys s (t, k) l = (t, then-lays (says j q (laying x)) xs r ys s k l)
+  then-lays q (x ∷ xs) r ys s (t, k) l = (t, then-lays (puts j q (laying x)) xs r ys s k l)
 
   -- the lays leave colours of the count that they name
   lays-stored : (q : List ℕ) (xs : List Piece) (r : List ℕ) → Lays q xs r → piecesStored q count ≡ true → piecesStored r count ≡ true
   lays-stored q [] r e s = subst (λ (m : List ℕ). piecesStored m count ≡ true) e s
-  lays-stored q (x ∷ xs) r (t, l) s = lays-stored (says j q (laying x)) xs r l (says-stored j q (laying x) t)
+  lays-stored q (x ∷ xs) r (t, l) s = lays-stored (puts j q (laying x)) xs r l (puts-stored j q (laying x) t)
 
   nothing-stored : piecesStored (nothing j) count ≡ true
   unfolding piecesStored
@@ -64,34 +73,33 @@ module _ (j : Panel) (count : ℕ) where
   -- ---- the lays in another order
 
   -- two lays that are taken one after the other are on two cells
-  two-cells : (q : List ℕ) (x y : Piece) → Good j q → Taken j q (laying x) → Taken j (says j q (laying x)) (laying y) → cell y ≢ cell x
+  two-cells : (q : List ℕ) (x y : Piece) → Good j q → Taken j q (laying x) → Taken j (puts j q (laying x)) (laying y) → cell y ≢ cell x
   two-cells q x y good tx ty e =
-      let here : getD (says j q (laying x)) (cell y) 0 ≡ x .colour + 1 =
-      rw e (getD-set-same q (cell x) (x .colour + 1) 0 (omega (arith, good .long, cell-in j (tx .on)))) in
+      let here : getD (puts j q (laying x)) (cell y) 0 ≡ x .colour + 1 =
+      rw e (getD-set-same q (cell x) (x .colour + 1) 0 (omega (arith, good .long, cell-in j (x .place) (tx .on .board)))) in
       let low : 1 ≤ x .colour = within-low 1 count (x .colour) (tx .own .0) in
-      never (ltb 1 (getD (says j q (laying x)) (cell y) 0)) (lt-ltb 1 (getD (says j q (laying x)) (cell y) 0) (omega arith)) (not-true _ (ty .own .1))
+      never (ltb 1 (getD (puts j q (laying x)) (cell y) 0)) (lt-ltb 1 (getD (puts j q (laying x)) (cell y) 0) (omega arith)) (not-true _ (ty .own .1))
 
   reorder : (q : List ℕ) (ys xs : List Piece) (r : List ℕ) → Reordered ys xs → Good j q → Lays q xs r → Lays q ys r
   reorder q ys xs r none good l = l
-  reorder q ys xs r (keep x {ps} {qs} h) good (t, l) = (t, reorder (says j q (laying x)) ps qs r h (says-good j q (laying x) good t) l)
+  reorder q ys xs r (keep x {ps} {qs} h) good (t, l) = (t, reorder (puts j q (laying x)) ps qs r h (puts-good j q (laying x) good t) l)
   reorder q ys xs r (swap y x ps) good (tx, (ty, l)) =
       let ne : cell y ≢ cell x = two-cells q x y good tx ty in (
         first y x (tx .stored) ne ty,
         (
-          other j q (says j q (laying y)) (laying x) (says-stored j q (laying y) (first y x (tx .stored) ne ty)) (getD-set-other q (cell y) (cell x) (y .colour + 1) 0 (λ e. ne (sym e))) tx,
+          other j q (puts j q (laying y)) (laying x) (puts-stored j q (laying y) (first y x (tx .stored) ne ty)) (getD-set-other q (cell y) (cell x) (y .colour + 1) 0 (λ e. ne (sym e))) tx,
           subst (λ (m : List ℕ). Lays m ps r) (set-comm q (cell x) (cell y) (x .colour + 1) (y .colour + 1) (λ e. ne (sym e))) l,
         ),
       )
     where
       -- the second lay, made first
-      first : (y x : Piece) → piecesStored q count ≡ true → cell y ≢ cell x → Taken j (says j q (laying x)) (laying y) → Taken j q (laying y)
-      first y x s ne ty = other j (says j q (laying x)) q (laying y) s (sym (getD-set-other q (cell x) (cell y) (x .colour + 1) 0 ne)) ty
+      first : (y x : Piece) → piecesStored q count ≡ true → cell y ≢ cell x → Taken j (puts j q (laying x)) (laying y) → Taken j q (laying y)
+      first y x s ne ty = other j (puts j q (laying x)) q (laying y) s (sym (getD-set-other q (cell x) (cell y) (x .colour + 1) 0 ne)) ty
   reorder q ys xs r (twice {ps} {qs} {rs} h i) good l = reorder q ps qs r h good (reorder q qs rs r i good l)
 
   -- ---- the lays row by row
 
-  -- `may`: where a piece stands, so many colours may be named of the tiles and the pieces
-  module _ (p : List ℕ) (good : Good j p) (may : (k : ℕ) → laidOn p k ≡ true → Named j count × (piecesStored p count ≡ true)) where
+  module _ (p : List ℕ) (good : Good j p) (may : May j p count) where
     abbrev stored : ℕ → ℕ
     stored k = getD p k 0
 
@@ -110,8 +118,8 @@ module _ (j : Panel) (count : ℕ) where
     next-taken : (n : ℕ) → n < j .rows * j .cols → laidOn p n ≡ true → piecesStored (upTo n) count ≡ true → Taken j (upTo n) (laying (piece n))
     unfolding piecesStored
     next-taken n n< on s =
-        let panel : InBounds j = good .backed n on .0 in
-        let m = may n on in
+        let panel : InBounds j = good .backed n n< on .0 in
+        let m = may n n< on in
         let low : 1 < stored n = ltb-true 1 (stored n) on in
         let high : stored n ≤ count + 1 =
         within-high 1 (count + 1) (stored n) (every-at (pieceStored p count) (length p) (m .1) n (omega (arith, good .long))) in
@@ -164,24 +172,28 @@ module _ (j : Panel) (count : ℕ) where
   -- ---- as a run
 
   as-run : Sound (shapeOf j) → (q : List ℕ) (xs : List Piece) (r : List ℕ) → Good j q → Lays q xs r
-      → (acceptedIn j (ofPieces j q) (lays count xs) ≡ lays count xs) × (run j (ofPieces j q) (lays count xs) ≡ ofPieces j r)
+      → (acceptedIn (withPieces j q) (lays count xs) ≡ lays count xs) × (run (withPieces j q) (lays count xs) ≡ withPieces j r)
   unfolding acceptedIn run fold lays
-  as-run sound q [] r good e = (refl, ap (ofPieces j) e)
+  as-run sound q [] r good e = (refl, ap (withPieces j) e)
   as-run sound q (x ∷ xs) r good (t, l) =
-      let rest = as-run sound (says j q (laying x)) xs r (says-good j q (laying x) good t) l in (
-        has-new _ (laying x ∷ later) later yes
-            ∙ ap (λ (cs : List Call). laying x ∷ cs) (ap (λ (b : Board). acceptedIn j b (lays count xs)) left ∙ rest .0),
-        ap (λ (b : Board). run j b (lays count xs)) left ∙ rest .1,
+      let rest = as-run sound (puts j q (laying x)) xs r (puts-good j q (laying x) good t) l in (
+        has-new _ (call (laying x) ∷ later) later yes′
+            ∙ ap (λ (cs : List Act). call (laying x) ∷ cs) (ap (λ (s : State). acceptedIn s (lays count xs)) left ∙ rest .0),
+        ap (λ (s : State). run s (lays count xs)) left ∙ rest .1,
       )
     where
-      yes : refusalOf j (ofPieces j q) (laying x) ≡ 0
-      yes = taken j q (laying x) good t
+      yes′ : refusalOf j (ofPieces j q) (laying x) ≡ 0
+      yes′ = taken j q good (laying x) t
 
-      later : List Call
-      later = acceptedIn j (step j (ofPieces j q) (laying x)) (lays count xs)
+      later : List Act
+      later = acceptedIn (record { panel = j; board = step j (ofPieces j q) (laying x) }) (lays count xs)
 
-      left : step j (ofPieces j q) (laying x) ≡ ofPieces j (says j q (laying x))
-      left = step-is j sound q (laying x) good ∙ ap (ofPieces j) (has-new _ (says j q (laying x)) q yes)
+      left : _≡_ {A = State} (record { panel = j; board = step j (ofPieces j q) (laying x) }) (withPieces j (puts j q (laying x)))
+      left =
+          ap (λ (b : Board). record { panel = j; board = b })
+          (step-by j (ofPieces j q) (laying x)
+          ∙ has-new _ (changed j (ofPieces j q) (laying x)) (ofPieces j q) yes′
+          ∙ changed-is j sound q (laying x) good t)
 
   -- ---- by the rule of lay alone
 
@@ -189,47 +201,68 @@ module _ (j : Panel) (count : ℕ) where
   unfolding laidAll fold
   by-rule sound q [] r good e = ap (ofPieces j) e
   by-rule sound q (x ∷ xs) r good (t, l) =
-      ap (λ (b : Board). laidAll j b xs) (laid-of j sound q count (x .place) (x .colour) good t)
-      ∙ by-rule sound (says j q (laying x)) xs r (says-good j q (laying x) good t) l
+      ap (λ (b : Board). laidAll j b xs) (changed-is j sound q (laying x) good t)
+      ∙ by-rule sound (puts j q (laying x)) xs r (puts-good j q (laying x) good t) l
 
-module _ (j : Panel) (sound : Sound (shapeOf j)) (calls : List Call) (pieces : List Piece) (order : Reordered pieces (standing j (run j (fresh j) calls .pieces))) where
-  abbrev p : List ℕ
-  p = run j (fresh j) calls .pieces
+-- ---- any good pieces
 
-  -- the pieces of the run, laid in this order
-  laid-so : (count : ℕ) → ((k : ℕ) → laidOn p k ≡ true → Named j count × (piecesStored p count ≡ true)) → Lays j count (nothing j) pieces p
-  laid-so count may =
-      reorder j count (nothing j) pieces (standing j p) p order (fresh-good j) (all-laid j count p (pieces-good j sound calls) may)
+-- the largest number of colours may always be named
+largest-may : (j : Panel) (p : List ℕ) → Good j p → May j p maxColours
+unfolding piecesStored
+largest-may j p good k k< on = (
+  good .backed k k< on .1,
+  every-is (pieceStored p maxColours) (length p) (λ i i<. good .coloured i (omega (arith, good .long))),
+)
 
-  called : (count : ℕ) → ((k : ℕ) → laidOn p k ≡ true → Named j count × (piecesStored p count ≡ true))
-      → (acceptedIn j (fresh j) (lays count pieces) ≡ lays count pieces) × (run j (fresh j) (lays count pieces) ≡ run j (fresh j) calls)
+module _ (j : Panel) (sound : Sound (shapeOf j)) (p : List ℕ) (good : Good j p) (pieces : List Piece) (order : Reordered pieces (standing j p)) where
+  -- the pieces laid in this order
+  laid-so : (count : ℕ) → May j p count → Lays j count (nothing j) pieces p
+  laid-so count may = reorder j count (nothing j) pieces (standing j p) p order (nothing-good j) (all-laid j count p good may)
+
+  ruled : laidAll j (fresh j) pieces ≡ ofPieces j p
+  ruled = ap (λ (b : Board). laidAll j b pieces) (fresh-of j) ∙ by-rule j maxColours sound (nothing j) pieces p (nothing-good j) (laid-so maxColours (largest-may j p good))
+
+  called : (count : ℕ) → May j p count
+      → (acceptedIn (start j) (lays count pieces) ≡ lays count pieces) × (run (start j) (lays count pieces) ≡ withPieces j p)
   called count may =
-      let done = as-run j count sound (nothing j) pieces p (fresh-good j) (laid-so count may) in (
-        ap (λ (b : Board). acceptedIn j b (lays count pieces)) (fresh-of j sound) ∙ done .0,
-        ap (λ (b : Board). run j b (lays count pieces)) (fresh-of j sound) ∙ done .1 ∙ sym (says-all j sound calls),
+      let done = as-run j count sound (nothing j) pieces p (nothing-good j) (laid-so count may) in
+      let from : start j ≡ withPieces j (nothing j) = ap (λ (b : Board). record { panel = j; board = b }) (fresh-of j) in (
+        ap (λ (s : State). acceptedIn s (lays count pieces)) from ∙ done .0,
+        ap (λ (s : State). run s (lays count pieces)) from ∙ done .1,
       )
 
-  -- the largest number of colours may always be named
-  largest-may : (k : ℕ) → laidOn p k ≡ true → Named j maxColours × (piecesStored p maxColours ≡ true)
-  unfolding piecesStored
-  largest-may k on =
-      let good : Good j p = pieces-good j sound calls in (
-        good .backed k on .1,
-        every-is (pieceStored p maxColours) (length p) (λ i i<. good .coloured i (omega (arith, good .long))),
-      )
+-- ---- the pieces of a run
 
-  -- "So the board equals one where only the standing pieces were laid, in any order": laid by the rule
-  pub any-order : laidAll j (fresh j) pieces ≡ run j (fresh j) calls
-  any-order =
-      ap (λ (b : Board). laidAll j b pieces) (fresh-of j sound)
-      ∙ by-rule j maxColours sound (nothing j) pieces p (fresh-good j) (laid-so maxColours largest-may)
-      ∙ sym (says-all j sound calls)
+module _ (j : Panel) (sound : SoundKind (j .kind)) (acts : List Act) (may : Widenable (j .kind) acts) (pieces : List Piece) where
+  -- the panel after the run, and the pieces that it leaves
+  abbrev last : Panel
+  last = run (start j) acts .panel
 
-  -- laid by the call; each of those lays is accepted
-  pub any-order-laid : (acceptedIn j (fresh j) (lays maxColours pieces) ≡ lays maxColours pieces) × (run j (fresh j) (lays maxColours pieces) ≡ run j (fresh j) calls)
-  any-order-laid = called maxColours largest-may
+  abbrev left : List ℕ
+  left = run (start j) acts .board .pieces
 
-  -- the same with any number of colours that is in bounds and has those of the tiles and of the pieces
-  pub any-order-named : (count : ℕ) → colourCount count ≡ true → noneAbove (j .tiles) count ≡ true → piecesStored p count ≡ true
-      → (acceptedIn j (fresh j) (lays count pieces) ≡ lays count pieces) × (run j (fresh j) (lays count pieces) ≡ run j (fresh j) calls)
-  any-order-named count n t s = called count (λ k on. (record { within = n; cells = t }, s))
+  sound-last : Sound (shapeOf last)
+  sound-last = subst (λ (kind : Kind). Sound (kind (last .rows) (last .cols))) (sym (kind-stays j sound acts may)) (sound _ _)
+
+  good : Good last left
+  good = pieces-good j sound acts may
+
+  module _ (order : Reordered pieces (standing last left)) where
+    at-last : (count : ℕ) → May last left count
+        → (acceptedIn (start last) (lays count pieces) ≡ lays count pieces) × (run (start last) (lays count pieces) ≡ run (start j) acts)
+    at-last count named =
+        let done = called last sound-last left good pieces order count named in
+        (done .0, done .1 ∙ ap (λ (b : Board). record { panel = last; board = b }) (sym (says-all j sound acts may)))
+
+    -- "So the board equals one where only the standing pieces were laid, in any order": laid by the rule
+    pub any-order : laidAll last (fresh last) pieces ≡ run (start j) acts .board
+    any-order = ruled last sound-last left good pieces order ∙ sym (says-all j sound acts may)
+
+    -- laid by the call; each of those lays is accepted
+    pub any-order-laid : (acceptedIn (start last) (lays maxColours pieces) ≡ lays maxColours pieces) × (run (start last) (lays maxColours pieces) ≡ run (start j) acts)
+    any-order-laid = at-last maxColours (largest-may last left good)
+
+    -- the same with any number of colours that is in bounds and has those of the tiles and of the pieces
+    pub any-order-named : (count : ℕ) → colourCount count ≡ true → noneAbove (last .tiles) count ≡ true → piecesStored left count ≡ true
+        → (acceptedIn (start last) (lays count pieces) ≡ lays count pieces) × (run (start last) (lays count pieces) ≡ run (start j) acts)
+    any-order-named count n t s = at-last count (λ k k< on. (record { within = n; cells = t }, s))

@@ -4,12 +4,12 @@
 --     weight-low, count-low   bounds of what the pieces say
 -- Weights: one term of a sum changes; a lift undoes the lay that would put its piece back, so that stopping at 0 never matters. Counts: a
 -- region that does not show the cell keeps its count. Assumes nothing.
-use Prim.Native.Nat.{ℕ, zero, suc, _+_, _-_, _*_, _<_, _≤_}
+use Prim.Native.Nat.{ℕ, _+_, _-_, _*_, _<_, _≤_}
 use mathlib.Core.Path.{_≡_, refl, sym, _∙_, ap}
 use mathlib.Core.Bool.{Bool, true, false, _&&_}
 use mathlib.Core.Logic.{_≢_, ⊎-elim}
 use mathlib.Core.List.{List}
-use native.Mathlib.Nat.{le-refl, le-step, lt-suc-self, zero-add, suc-mul}
+use native.Mathlib.Nat.{le-refl, zero-add}
 use native.Mathlib.Omega.{arith}
 use lib.Dec.{leb, ltb, eqb}
 use lib.ListN.{length, getD, set, length-set, List·getD-eq-default}
@@ -19,11 +19,12 @@ use Rattle.base.specs.Counting.{pick, sum}
 use Rattle.base.specs.Tables.{tab}
 use Rattle.base.proofs.Bools.{never, by-test, pick-yes, pick-no, and-right}
 use Rattle.base.proofs.Counted.{sum-one, every-is}
+use Rattle.base.proofs.Sums.{sum-none, sum-low}
 use Rattle.base.proofs.Numbers.{lt-or-le}
 use Rattle.base.proofs.Tabled.{length-tab, getD-tab, tab-ext, is-tab}
 use Rattle.rules.specs.Bounds.{bare}
 use Rattle.rules.specs.Tests.{tilesIn}
-use Rattle.rules.specs.Grid.{Shape, laidOn}
+use Rattle.rules.specs.Grid.{Shape, Kind, laidOn}
 use Rattle.rules.specs.Fit.{pattern, fitCount}
 use Rattle.rules.proofs.Shares.{share-le}
 use Rattle.rules.proofs.Fitting.{count-ext, bare-fits, fit-low}
@@ -33,26 +34,15 @@ use Rattle.rules.specs.Board.{Board, share, reach, weightsOf, countsOf, boardOf
 pub record Sound (g : Shape) : Type 0 where
   pub unseen : (k s i : ℕ) → i < 9 → g .whole s ≡ true → 2 < g .apart k s → g .cell s i ≢ k
 
+abbrev pub SoundKind : Kind → Type 0
+SoundKind kind = (rows cols : ℕ) → Sound (kind rows cols)
+
 -- equal planes make equal boards
 abbrev planes : List ℕ → List ℕ → List ℕ → Board
 planes p w c = record { pieces = p; weights = w; counts = c }
 
-both : {p w x c d : List ℕ} → w ≡ x → c ≡ d → planes p w c ≡ planes p x d
+pub both : {p w x c d : List ℕ} → w ≡ x → c ≡ d → planes p w c ≡ planes p x d
 both e f = rw (e, f)
-
--- a sum of zeros, and a sum of small terms
-sum-none : (n : ℕ) (f : ℕ → ℕ) → ((k : ℕ) → k < n → f k ≡ 0) → sum n f ≡ 0
-unfolding sum
-sum-none zero f h = refl
-sum-none (suc n) f h = let a : sum n f ≡ 0 = sum-none n f (λ k l. h k (le-step l)) in let b : f n ≡ 0 = h n (lt-suc-self n) in omega arith
-
-sum-low : (n m : ℕ) (f : ℕ → ℕ) → ((k : ℕ) → k < n → f k ≤ m) → sum n f ≤ n * m
-unfolding sum
-sum-low zero m f h = omega arith
-sum-low (suc n) m f h =
-    let a : sum n f ≤ n * m = sum-low n m f (λ k l. h k (le-step l)) in
-    let b : f n ≤ m = h n (lt-suc-self n) in
-    rw (suc-mul n m) (omega arith)
 
 -- a table whose entries are small; past its end stands 0
 tab-low : (n m : ℕ) (f : ℕ → ℕ) → ((k : ℕ) → k < n → f k ≤ m) → (k : ℕ) → getD (tab n f) k 0 ≤ m
@@ -63,7 +53,7 @@ tab-low n m f h k =
     (lt-or-le k n)
 
 -- no piece stands on bare pieces
-pub bare-off : (n k : ℕ) → getD (tab n (λ i. bare)) k 0 ≤ 1
+bare-off : (n k : ℕ) → getD (tab n (λ i. bare)) k 0 ≤ 1
 bare-off n = tab-low n 1 (λ i. bare) (λ i i<. le-refl 1)
 
 -- of two tests that do not both hold, the first does not hold where the second does
@@ -87,6 +77,14 @@ module _ (g : Shape) where
   -- the weight of cell i on a board of n cells
   abbrev weightAt : ℕ → List ℕ → ℕ → ℕ
   weightAt n p i = 1 + sum n (term p i)
+
+  pub weights-long : (p : List ℕ) → length (weightsOf g p) ≡ length p
+  unfolding weightsOf
+  weights-long p = length-tab (length p) _
+
+  pub weight-at : {n : ℕ} (p : List ℕ) (k : ℕ) → length p ≡ n → k < n → getD (weightsOf g p) k 0 ≡ 1 + sum n (λ j. pick (laidOn p j) (reach g j k) 0)
+  unfolding weightsOf
+  weight-at {n} p k long k< = ap (λ (m : ℕ). getD (tab m (weightAt m p)) k 0) long ∙ getD-tab n (weightAt n p) k 0 k<
 
   pub lay-weights : (p : List ℕ) (k v : ℕ) → k < length p → laidOn p k ≡ false → 1 < v → raised g k (weightsOf g p) ≡ weightsOf g (set p k v)
   unfolding raised weightsOf
@@ -141,6 +139,19 @@ module _ (g : Shape) where
           ∙ ap (weightsOf g) back)
 
   -- ---- counts
+
+  pub counts-long : (tiles p : List ℕ) → length (countsOf g tiles p) ≡ length p
+  unfolding countsOf
+  counts-long tiles p = length-tab (length p) _
+
+  pub count-at : {n : ℕ} (tiles p : List ℕ) (s : ℕ) → length p ≡ n → s < n
+      → getD (countsOf g tiles p) s 0 ≡ pick (g .whole s) (fitCount tiles (pattern g p s)) (tilesIn tiles)
+  unfolding countsOf
+  count-at {n} tiles p s long s< =
+      ap (λ (m : ℕ). getD (tab m counted) s 0) long ∙ getD-tab n counted s 0 s<
+    where
+      counted : ℕ → ℕ
+      counted i = pick (g .whole i) (fitCount tiles (pattern g p i)) (tilesIn tiles)
 
   module _ (sound : Sound g) (tiles : List ℕ) where
     -- recounting the near starts suffices

@@ -1,36 +1,63 @@
--- Demand 3. After any run of lay and lift from a fresh board, refused calls included, the board is what the accepted calls say, and its
--- weights and counts are those that the standing pieces alone say. For every panel whose kind of grid is sound, as the flat one is
--- (`flat-sound`), and all arguments, the number of colours that each call names among them; nothing else is asked.
---     stands          the whole board, as one equation
---     pieces-stand, weights-stand, counts-stand   its three parts in the words of the demand
---     flat-stands     the same for the panels of the calls, with nothing asked
+-- Demand 3. After any run of lay, lift and widening from a fresh board, refused ones included, the panel is the one that the accepted acts
+-- say, and the board is what they say of the wall: its weights and counts are those that the standing pieces alone say. For every panel
+-- whose kind of grid is sound, and can be widened if the run widens it, as the flat one is and can (`flat-sound`, `flat-embeds`); for all
+-- arguments, the number of colours that each act names among them; nothing else is asked.
+--     stands          panel and board, as one equation
+--     pieces-stand, weights-stand, counts-stand   the parts of the board in the words of the demand
+--     all-stand       no piece is lost: each that is told stands on the last panel
+--     says-all        the board of a run is what its pieces say
+--     same-panel, calls-stand     where nothing is widened: the panel is the first one
+--     flat-stands     the theorem for the panels of the calls, with nothing asked
 --     from-fresh      the board that an accepted call of fresh leaves is the one from which the runs start
--- Assumes nothing.
+-- Act by act, on plans: an act moves the plan of the accepted ones, and the board is that of the plan. Assumes nothing.
 use Prim.Native.Nat.{ℕ, zero, suc, _+_, _*_, _<_, _≤_}
-use mathlib.Core.Path.{_≡_, refl, sym, _∙_, ap}
+use mathlib.Core.Path.{_≡_, refl, sym, _∙_, ap, subst}
 use mathlib.Core.Bool.{Bool, true, false, _&&_}
-use mathlib.Core.List.{List, [], _∷_}
+use mathlib.Core.List.{List, [], _∷_, map}
 use native.Mathlib.Omega.{arith}
-use lib.Dec.{leb, eqb}
+use lib.Dec.{leb, ltb, eqb}
 use lib.ListN.{getD}
 use borrow.Author.Tests.{leb-true, leb-false, ne-eqb}
 use Rattle.base.specs.Counting.{pick, sum, tally}
-use Rattle.base.specs.Tables.{tab, fold}
+use Rattle.base.specs.Tables.{fold}
 use Rattle.base.specs.Refusal.{unlessRefused}
-use Rattle.base.proofs.Bools.{by-test}
-use Rattle.base.proofs.Tabled.{getD-tab}
-use Rattle.rules.specs.Tests.{tilesIn}
-use Rattle.rules.specs.Grid.{laidOn}
+use Rattle.base.proofs.Bools.{never, by-test}
+use Rattle.base.proofs.Numbers.{within-is}
+use Rattle.rules.specs.Bounds.{maxColours, bare}
+use Rattle.rules.specs.Tests.{tilesIn, onBoard}
+use Rattle.rules.specs.Grid.{Kind, flat, laidOn}
 use Rattle.rules.specs.Fit.{pattern, fitCount}
-use Rattle.rules.specs.Board.{Panel, shapeOf, Board, share, reach, weightsOf, countsOf, boardOf}
+use Rattle.rules.specs.Board.{Panel, shapeOf, entryIn, Board, share, boardOf}
 use Rattle.rules.specs.Promises.{panel, Freshens}
+use Rattle.rules.specs.declared.World.{World}
 use Rattle.rules.specs.declared.Offset.{Offset}
 use Rattle.rules.specs.declared.Written.the-variants.{Done}
 use Rattle.rules.proofs.Answered.{was-written}
-use Rattle.stand.specs.Runs.{Call, fresh, refusalOf, step, run, acceptedIn, says, told, withinOne, exactlyTwo}
-use Rattle.stand.proofs.Shared.{Sound, fresh-is}
-use Rattle.stand.proofs.Flat.{flat-sound}
-use Rattle.stand.proofs.Calls.{Good, ofPieces, moved, step-is, nothing, fresh-good, moved-good}
+use Rattle.stand.specs.Runs.{State, fresh, start, Call, Act, call, widen, refusalIn, acted, run, acceptedIn, Plan, says, told, piecesOn, stateOf, withinOne, exactlyTwo}
+use Rattle.stand.proofs.Shared.{SoundKind, weight-at, count-at}
+use Rattle.stand.proofs.Widened.{GridsEmbed}
+use Rattle.stand.proofs.Flat.{flat-sound, flat-embeds}
+use Rattle.stand.proofs.Calls.{Good, fresh-of}
+use Rattle.stand.proofs.Plans.{on-place, stateAt, Fine, good-of, laid-lies, Asked, movedTo, moved-fine, acted-is}
+
+-- what the acts ask of a kind of grid: nothing, where none of them widens
+abbrev pub Widenable : Kind → List Act → Type 0
+Widenable kind [] = Unit
+Widenable kind (call c ∷ acts) = Widenable kind acts
+Widenable kind (widen count p lent ∷ acts) = GridsEmbed kind × Widenable kind acts
+
+asked : (kind : Kind) (a : Act) (acts : List Act) → Widenable kind (a ∷ acts) → Asked kind a × Widenable kind acts
+asked kind (call c) acts may = (tt, may)
+asked kind (widen count p lent) acts may = may
+
+pub calls-may : (kind : Kind) (calls : List Call) → Widenable kind (map call calls)
+calls-may kind [] = tt
+calls-may kind (c ∷ calls) = calls-may kind calls
+
+pub flat-may : (acts : List Act) → Widenable flat acts
+flat-may [] = tt
+flat-may (call c ∷ acts) = flat-may acts
+flat-may (widen count p lent ∷ acts) = (flat-embeds, flat-may acts)
 
 -- a sum of shares, as numbers of pieces
 one-share : (on : Bool) (d : ℕ) → pick on (share d) 0 ≡ 3 * pick (on && leb d 1) 1 0 + pick (on && eqb d 2) 1 0
@@ -57,95 +84,162 @@ shares (suc n) on d =
     let b : pick (on n) (share (d n)) 0 ≡ 3 * pick (on n && leb (d n) 1) 1 0 + pick (on n && eqb (d n) 2) 1 0 = one-share (on n) (d n) in
     omega arith
 
+-- the plan after a run
+abbrev pub movedBy : Plan → List Act → Plan
+movedBy t acts = fold movedTo t acts
+
 module _ (j : Panel) where
-  -- the pieces after a run
-  abbrev pub movedBy : List ℕ → List Call → List ℕ
-  movedBy p calls = fold (moved j) p calls
+  -- a bare wall
+  abbrev pub opening : Plan
+  opening = record { panel = j; wall = λ v. bare }
 
-  pub run-good : (p : List ℕ) (calls : List Call) → Good j p → Good j (movedBy p calls)
+  opening-fine : Fine j opening
+  opening-fine =
+      record {
+        kind = refl;
+        tiles = refl;
+        coloured = λ v. within-is 1 (maxColours + 1) 1 (omega arith) (omega arith);
+        inside = λ v off. refl;
+        backed = λ v e. never false e refl;
+      }
+
+  pub run-fine : (t : Plan) (acts : List Act) → Fine j t → Fine j (movedBy t acts)
   unfolding fold
-  run-good p [] good = good
-  run-good p (c ∷ calls) good = run-good (moved j p c) calls (moved-good j p c good)
+  run-fine t [] fine = fine
+  run-fine t (a ∷ acts) fine = run-fine (movedTo t a) acts (moved-fine t a fine)
 
-module _ (j : Panel) (sound : Sound (shapeOf j)) where
-  pub run-is : (p : List ℕ) (calls : List Call) → Good j p → run j (ofPieces j p) calls ≡ ofPieces j (movedBy j p calls)
+  pub plan-fine : (acts : List Act) → Fine j (movedBy opening acts)
+  plan-fine acts = run-fine opening acts opening-fine
+
+  start-is : start j ≡ stateAt opening
+  unfolding piecesOn
+  start-is = ap (λ (b : Board). record { panel = j; board = b }) (fresh-of j)
+
+module _ (j : Panel) (sound : SoundKind (j .kind)) where
+  run-is : (t : Plan) (acts : List Act) → Fine j t → Widenable (j .kind) acts → run (stateAt t) acts ≡ stateAt (movedBy t acts)
   unfolding run fold
-  run-is p [] good = refl
-  run-is p (c ∷ calls) good =
-      ap (λ (b : Board). run j b calls) (step-is j sound p c good) ∙ run-is (moved j p c) calls (moved-good j p c good)
+  run-is t [] fine may = refl
+  run-is t (a ∷ acts) fine may =
+      let h = asked (j .kind) a acts may in
+      ap (λ (s : State). run s acts) (acted-is t a fine sound (h .0)) ∙ run-is (movedTo t a) acts (moved-fine t a fine) (h .1)
 
-  -- what the accepted calls say is what the run leaves
-  first-said : (p : List ℕ) (c : Call) (n : ℕ) (later : List Call)
-      → fold (says j) p (unlessRefused n (c ∷ later) later) ≡ fold (says j) (unlessRefused n (says j p c) p) later
+  -- what the accepted acts say is what the run leaves
+  first-said : (t : Plan) (a : Act) (n : ℕ) (later : List Act)
+      → fold says t (unlessRefused n (a ∷ later) later) ≡ fold says (unlessRefused n (says t a) t) later
   unfolding fold
-  first-said p c zero later = refl
-  first-said p c (suc n) later = refl
+  first-said t a zero later = refl
+  first-said t a (suc n) later = refl
 
-  told-is : (p : List ℕ) (calls : List Call) → Good j p → fold (says j) p (acceptedIn j (ofPieces j p) calls) ≡ movedBy j p calls
+  told-is : (t : Plan) (acts : List Act) → Fine j t → Widenable (j .kind) acts → fold says t (acceptedIn (stateAt t) acts) ≡ movedBy t acts
   unfolding acceptedIn fold
-  told-is p [] good = refl
-  told-is p (c ∷ calls) good =
-      first-said p c (refusalOf j (ofPieces j p) c) (acceptedIn j (step j (ofPieces j p) c) calls)
-      ∙ ap (λ (b : Board). fold (says j) (moved j p c) (acceptedIn j b calls)) (step-is j sound p c good)
-      ∙ told-is (moved j p c) calls (moved-good j p c good)
-
-  pub fresh-of : fresh j ≡ ofPieces j (nothing j)
-  fresh-of = fresh-is (shapeOf j) (j .tiles) (j .rows * j .cols)
+  told-is t [] fine may = refl
+  told-is t (a ∷ acts) fine may =
+      let h = asked (j .kind) a acts may in
+      first-said t a (refusalIn (stateAt t) a) (acceptedIn (acted (stateAt t) a) acts)
+      ∙ ap (λ (s : State). fold says (movedTo t a) (acceptedIn s acts)) (acted-is t a fine sound (h .0))
+      ∙ told-is (movedTo t a) acts (moved-fine t a fine) (h .1)
 
   -- from a fresh board
-  pub run-fresh : (calls : List Call) → run j (fresh j) calls ≡ ofPieces j (movedBy j (nothing j) calls)
-  run-fresh calls = ap (λ (b : Board). run j b calls) fresh-of ∙ run-is (nothing j) calls (fresh-good j)
+  pub run-start : (acts : List Act) → Widenable (j .kind) acts → run (start j) acts ≡ stateAt (movedBy (opening j) acts)
+  run-start acts may = ap (λ (s : State). run s acts) (start-is j) ∙ run-is (opening j) acts (opening-fine j) may
 
-  told-fresh : (calls : List Call) → told j (acceptedIn j (fresh j) calls) ≡ movedBy j (nothing j) calls
+  told-start : (acts : List Act) → Widenable (j .kind) acts → told j (acceptedIn (start j) acts) ≡ movedBy (opening j) acts
   unfolding told
-  told-fresh calls = ap (λ (b : Board). told j (acceptedIn j b calls)) fresh-of ∙ told-is (nothing j) calls (fresh-good j)
+  told-start acts may = ap (λ (s : State). told j (acceptedIn s acts)) (start-is j) ∙ told-is (opening j) acts (opening-fine j) may
 
-  pub pieces-good : (calls : List Call) → Good j (run j (fresh j) calls .pieces)
-  unfolding boardOf
-  pieces-good calls = rw (run-fresh calls) (run-good j (nothing j) calls (fresh-good j))
+  -- Demand 3. "From a fresh board, with only lay, lift and widening touching it, after any run of those, refused ones included": the panel
+  -- and the board are those of the plan that the accepted ones tell.
+  pub stands : (acts : List Act) → Widenable (j .kind) acts → run (start j) acts ≡ stateOf (told j (acceptedIn (start j) acts))
+  unfolding stateOf
+  stands acts may = run-start acts may ∙ ap stateOf (sym (told-start acts may))
 
-  -- Demand 3. "From a fresh board, with size, tiles and offset fixed and only lay and lift touching it, after any run of those calls,
-  -- refused ones included": the board is the one that the pieces told by the accepted calls make.
-  pub stands : (calls : List Call) → run j (fresh j) calls ≡ boardOf (shapeOf j) (j .tiles) (told j (acceptedIn j (fresh j) calls))
-  stands calls = run-fresh calls ∙ ap (ofPieces j) (sym (told-fresh calls))
+  module _ (acts : List Act) (may : Widenable (j .kind) acts) where
+    -- the panel and the board after the run
+    abbrev pub last : Panel
+    last = run (start j) acts .panel
 
-  -- "the pieces standing are those the accepted calls say"
-  pub pieces-stand : (calls : List Call) → run j (fresh j) calls .pieces ≡ told j (acceptedIn j (fresh j) calls)
-  unfolding boardOf
-  pieces-stand calls = ap (λ (b : Board). b .pieces) (stands calls)
+    abbrev pub final : Board
+    final = run (start j) acts .board
 
-  -- the board of a run is what its pieces say
-  pub says-all : (calls : List Call) → run j (fresh j) calls ≡ boardOf (shapeOf j) (j .tiles) (run j (fresh j) calls .pieces)
-  says-all calls = stands calls ∙ ap (boardOf (shapeOf j) (j .tiles)) (sym (pieces-stand calls))
+    -- what holds of the state of the plan told holds of the state after the run
+    at-end : (P : State → Type 0) → P (stateAt (movedBy (opening j) acts)) → P (run (start j) acts)
+    at-end P h = subst P (sym (run-start acts may)) h
 
-  -- "each weight is 1, plus 3 per piece at most one cell away, plus 1 per piece exactly two away"
-  pub weights-stand : (calls : List Call) (k : ℕ) → k < j .rows * j .cols
-      → getD (run j (fresh j) calls .weights) k 0
-      ≡ 1 + 3 * withinOne j (run j (fresh j) calls .pieces) k + exactlyTwo j (run j (fresh j) calls .pieces) k
-  unfolding boardOf weightsOf withinOne exactlyTwo
-  weights-stand calls k k< =
-      let p : List ℕ = run j (fresh j) calls .pieces in
-      ap (λ (b : Board). getD (b .weights) k 0) (says-all calls)
-      ∙ ap (λ (n : ℕ). getD (tab n (λ i. 1 + sum n (λ l. pick (laidOn p l) (reach (shapeOf j) l i) 0))) k 0) (pieces-good calls .long)
-      ∙ getD-tab (j .rows * j .cols) (λ i. 1 + sum (j .rows * j .cols) (λ l. pick (laidOn p l) (reach (shapeOf j) l i) 0)) k 0 k<
-      ∙ omega (arith, shares (j .rows * j .cols) (laidOn p) (λ i. shapeOf j .apart i k))
+    -- the tiles and the kind of the panel stay
+    pub tiles-stay : last .tiles ≡ j .tiles
+    tiles-stay = at-end (λ s. s .panel .tiles ≡ j .tiles) (plan-fine j acts .tiles)
 
-  -- "each count is the number of tiles that fit its region, or all tiles where the region passes the edge"
-  pub counts-stand : (calls : List Call) (s : ℕ) → s < j .rows * j .cols
-      → getD (run j (fresh j) calls .counts) s 0
-      ≡ pick (shapeOf j .whole s) (fitCount (j .tiles) (pattern (shapeOf j) (run j (fresh j) calls .pieces) s)) (tilesIn (j .tiles))
-  unfolding boardOf countsOf
-  counts-stand calls s s< =
-      let p : List ℕ = run j (fresh j) calls .pieces in
-      ap (λ (b : Board). getD (b .counts) s 0) (says-all calls)
-      ∙ ap (λ (n : ℕ). getD (tab n (λ i. pick (shapeOf j .whole i) (fitCount (j .tiles) (pattern (shapeOf j) p i)) (tilesIn (j .tiles)))) s 0) (pieces-good calls .long)
-      ∙ getD-tab (j .rows * j .cols) (λ i. pick (shapeOf j .whole i) (fitCount (j .tiles) (pattern (shapeOf j) p i)) (tilesIn (j .tiles))) s 0 s<
+    pub kind-stays : last .kind ≡ j .kind
+    kind-stays = at-end (λ s. s .panel .kind ≡ j .kind) (plan-fine j acts .kind)
+
+    -- "the pieces standing are those the accepted calls say", "in wall coordinates"
+    pub pieces-stand : (v : World) → onBoard (last .rows) (last .cols) v (last .offset) ≡ true
+        → getD (final .pieces) (entryIn last v) 0 ≡ told j (acceptedIn (start j) acts) .wall v
+    unfolding boardOf
+    pieces-stand v =
+        at-end
+        (λ s.
+        onBoard (s .panel .rows) (s .panel .cols) v (s .panel .offset) ≡ true
+        → getD (s .board .pieces) (entryIn (s .panel) v) 0 ≡ told j (acceptedIn (start j) acts) .wall v)
+        (λ on. on-place _ _ v on ∙ ap (λ (t : Plan). t .wall v) (sym (told-start acts may)))
+
+    -- and each of them stands: no piece is lost
+    pub all-stand : (v : World) → ltb bare (told j (acceptedIn (start j) acts) .wall v) ≡ true → onBoard (last .rows) (last .cols) v (last .offset) ≡ true
+    all-stand v e =
+        at-end (λ s. onBoard (s .panel .rows) (s .panel .cols) v (s .panel .offset) ≡ true)
+        (laid-lies (plan-fine j acts) v (ap (λ (t : Plan). ltb bare (t .wall v)) (sym (told-start acts may)) ∙ e))
+
+    -- the board of a run is what its pieces say
+    pub says-all : final ≡ boardOf (shapeOf last) (last .tiles) (final .pieces)
+    unfolding boardOf
+    says-all = at-end (λ s. s .board ≡ boardOf (shapeOf (s .panel)) (s .panel .tiles) (s .board .pieces)) refl
+
+    pub pieces-good : Good last (final .pieces)
+    unfolding boardOf
+    pieces-good = at-end (λ s. Good (s .panel) (s .board .pieces)) (good-of (plan-fine j acts))
+
+    -- "each weight is 1, plus 3 per piece at most one cell away, plus 1 per piece exactly two away"
+    pub weights-stand : (k : ℕ) → k < last .rows * last .cols
+        → getD (final .weights) k 0 ≡ 1 + 3 * withinOne last (final .pieces) k + exactlyTwo last (final .pieces) k
+    unfolding boardOf withinOne exactlyTwo
+    weights-stand k k< =
+        ap (λ (b : Board). getD (b .weights) k 0) says-all
+        ∙ weight-at (shapeOf last) (final .pieces) k (pieces-good .long) k<
+        ∙ omega (arith, shares (last .rows * last .cols) (laidOn (final .pieces)) (λ i. shapeOf last .apart i k))
+
+    -- "each count is the number of tiles that fit its region, or all tiles where the region passes the edge"
+    pub counts-stand : (s : ℕ) → s < last .rows * last .cols
+        → getD (final .counts) s 0 ≡ pick (shapeOf last .whole s) (fitCount (last .tiles) (pattern (shapeOf last) (final .pieces) s)) (tilesIn (last .tiles))
+    unfolding boardOf
+    counts-stand s s< =
+        ap (λ (b : Board). getD (b .counts) s 0) says-all ∙ count-at (shapeOf last) (last .tiles) (final .pieces) s (pieces-good .long) s<
+
+-- ---- "with size, tiles and offset fixed": runs of lay and lift alone
+
+calls-panel : (s : State) (calls : List Call) → run s (map call calls) .panel ≡ s .panel
+unfolding run fold
+calls-panel s [] = refl
+calls-panel s (c ∷ calls) = calls-panel (acted s (call c)) calls
+
+pub same-panel : (j : Panel) (calls : List Call) → run (start j) (map call calls) .panel ≡ j
+same-panel j calls = calls-panel (start j) calls
+
+pub calls-stand : (j : Panel) → SoundKind (j .kind) → (calls : List Call)
+    → run (start j) (map call calls) .board ≡ boardOf (shapeOf j) (j .tiles) (piecesOn j (told j (acceptedIn (start j) (map call calls)) .wall))
+unfolding stateOf
+calls-stand j sound calls =
+    ap (λ (s : State). s .board) e
+    ∙ ap (λ (i : Panel). boardOf (shapeOf i) (i .tiles) (piecesOn i (told j (acceptedIn (start j) (map call calls)) .wall)))
+    (sym (ap (λ (s : State). s .panel) e) ∙ same-panel j calls)
+  where
+    e : run (start j) (map call calls) ≡ stateOf (told j (acceptedIn (start j) (map call calls)))
+    e = stands j sound (map call calls) (calls-may (j .kind) calls)
 
 -- "From a fresh board": whatever the lent planes held, what an accepted call of fresh leaves is the board from which the runs start
 pub from-fresh : (j : Panel) (old left : Board) → Freshens (j .rows) (j .cols) (tilesIn (j .tiles)) old Done left → left ≡ fresh j
 from-fresh j old left f = was-written _ _ _ f .1
 
 -- the theorem for the panels of the calls, whose grid is flat
-pub flat-stands : (rows cols : ℕ) (tiles : List ℕ) (offset : Offset) (calls : List Call)
-    → let j = panel rows cols tiles offset in run j (fresh j) calls ≡ boardOf (shapeOf j) (j .tiles) (told j (acceptedIn j (fresh j) calls))
-flat-stands rows cols tiles offset = stands (panel rows cols tiles offset) (flat-sound rows cols)
+pub flat-stands : (rows cols : ℕ) (tiles : List ℕ) (offset : Offset) (acts : List Act)
+    → let j = panel rows cols tiles offset in run (start j) acts ≡ stateOf (told j (acceptedIn (start j) acts))
+flat-stands rows cols tiles offset acts = stands (panel rows cols tiles offset) flat-sound acts (flat-may acts)

@@ -1,34 +1,50 @@
 -- Wall coordinates and cells: a place on the board has a cell of the board and no other place has that cell; each cell has a place on the
--- wall, which is why an offset is at least -999,937 on a board of at most 64 cells a side. Assumes nothing.
+-- wall, which is why an offset is at least -999,937 on a board of at most 64 cells a side. In a wider panel a place lies where its cell was
+-- moved to. Assumes nothing.
 use Prim.Native.Nat.{ℕ, zero, suc, _+_, _-_, _*_, _/_, _%_, _<_, _≤_}
 use mathlib.Core.Path.{_≡_, refl, sym, _∙_, ap}
 use mathlib.Core.Bool.{Bool, true, false, cond, _&&_}
+use native.Mathlib.Nat.{add-comm}
 use native.Mathlib.Omega.{arith}
 use lib.Dec.{leb, ltb}
-use lib.IntN.{ℤ, pos, negsuc, _+ℤ_, _-ℤ_, +ℤ-negℤ-cancel, -ℤ-+ℤ-cancel}
+use lib.IntN.{ℤ, pos, negsuc, _+ℤ_, _-ℤ_, +ℤ-assoc, pos-+ℤ-pos, +ℤ-negℤ-cancel, -ℤ-+ℤ-cancel}
 use lib.Signed.{leZ}
-use borrow.Author.Tests.{leb-true, lt-ltb, le-leb, eqb-true, eq-eqb}
+use borrow.Author.Tests.{leb-true, lt-ltb, le-leb}
 use Rattle.base.specs.Counting.{within}
 use Rattle.base.specs.Whole.{clip, withinZ, indexBelow, eqZ}
-use Rattle.base.proofs.Bools.{never, and-left, and-right, and-both}
-use Rattle.base.proofs.Numbers.{cell-lt, row-of, col-of, cell-is, row-lt, col-lt, within-low, within-high}
-use Rattle.base.proofs.Signs.{eqZ-true, index-clip, index-pos}
+use Rattle.base.proofs.Bools.{and-left, and-right, and-both}
+use Rattle.base.proofs.Numbers.{cell-lt, row-of, col-of, cell-is, row-in, col-in, within-high}
+use Rattle.base.proofs.Signs.{eqZ-same, eqZ-true, index-clip, index-pos}
 use Rattle.rules.specs.Bounds.{maxBoardSide, minCoordinate, maxCoordinate, minOffset, maxOffset}
 use Rattle.rules.specs.Tests.{boardSides, onWall, offsetFits, onBoard}
-use Rattle.rules.specs.Places.{cellOf}
+use Rattle.rules.specs.Places.{cellOf, samePlace, extensionBy, newRows, newCols}
 use Rattle.rules.specs.Board.{Panel, entryIn}
+use Rattle.rules.specs.Widening.{wider}
 use Rattle.rules.specs.declared.World.{World}
-use Rattle.rules.specs.Places.{samePlace}
+use Rattle.rules.specs.declared.Pads.{Pads}
 use Rattle.stand.specs.Runs.{wallOf}
+use Rattle.stand.proofs.Widened.{embedded}
 
--- a wall coordinate whose cell lies on the board
+-- the cell of a wall coordinate lies on the board
+abbrev pub lies : Panel → World → Bool
+lies j v = onBoard (j .rows) (j .cols) v (j .offset)
+
+-- and it is a coordinate that a call may name
 pub record On (j : Panel) (w : World) : Type 0 where
   pub wall : onWall w ≡ true
-  pub board : onBoard (j .rows) (j .cols) w (j .offset) ≡ true
+  pub board : lies j w ≡ true
 
-eqZ-same : (x : ℤ) → eqZ x x ≡ true
-eqZ-same (pos a) = eq-eqb a a refl
-eqZ-same (negsuc a) = eq-eqb a a refl
+-- the test of one place
+pub one-place : (v w : World) → samePlace v w ≡ true → v ≡ w
+unfolding samePlace
+one-place v w e =
+    let r : v .0 ≡ w .0 = eqZ-true (v .0) (w .0) (and-left (eqZ (v .0) (w .0)) (eqZ (v .1) (w .1)) e) in
+    let c : v .1 ≡ w .1 = eqZ-true (v .1) (w .1) (and-right (eqZ (v .0) (w .0)) (eqZ (v .1) (w .1)) e) in
+    λ i. record { 0 = r i; 1 = c i }
+
+pub place-itself : (v : World) → samePlace v v ≡ true
+unfolding samePlace
+place-itself v = and-both _ _ (eqZ-same (v .0)) (eqZ-same (v .1))
 
 module _ (j : Panel) where
   -- index = coordinate + offset
@@ -38,45 +54,49 @@ module _ (j : Panel) where
   abbrev colZ : World → ℤ
   colZ w = w .1 +ℤ j .offset .1
 
-  row-on : {w : World} → On j w → indexBelow (j .rows) (rowZ w) ≡ true
+  row-on : (w : World) → lies j w ≡ true → indexBelow (j .rows) (rowZ w) ≡ true
   unfolding onBoard
-  row-on {w} on = and-left (indexBelow (j .rows) (rowZ w)) (indexBelow (j .cols) (colZ w)) (on .board)
+  row-on w on = and-left (indexBelow (j .rows) (rowZ w)) (indexBelow (j .cols) (colZ w)) on
 
-  col-on : {w : World} → On j w → indexBelow (j .cols) (colZ w) ≡ true
+  col-on : (w : World) → lies j w ≡ true → indexBelow (j .cols) (colZ w) ≡ true
   unfolding onBoard
-  col-on {w} on = and-right (indexBelow (j .rows) (rowZ w)) (indexBelow (j .cols) (colZ w)) (on .board)
+  col-on w on = and-right (indexBelow (j .rows) (rowZ w)) (indexBelow (j .cols) (colZ w)) on
 
-  pub cell-in : {w : World} → On j w → entryIn j w < j .rows * j .cols
+  -- the column and the row of a place on the board
+  col-low : (w : World) → lies j w ≡ true → clip (colZ w) < j .cols
+  col-low w on = index-clip (j .cols) (colZ w) (col-on w on)
+
+  pub cell-in : (w : World) → lies j w ≡ true → entryIn j w < j .rows * j .cols
   unfolding cellOf
-  cell-in {w} on = cell-lt (index-clip (j .rows) (rowZ w) (row-on on)) (index-clip (j .cols) (colZ w) (col-on on))
+  cell-in w on = cell-lt (index-clip (j .rows) (rowZ w) (row-on w on)) (col-low w on)
 
-  -- two places on the board that have one cell are one place
-  same-index : (n : ℕ) (x y o : ℤ) → indexBelow n (x +ℤ o) ≡ true → indexBelow n (y +ℤ o) ≡ true → clip (x +ℤ o) ≡ clip (y +ℤ o) → x ≡ y
-  same-index n x y o p q e =
-      sym (+ℤ-negℤ-cancel x o)
-      ∙ ap (λ (z : ℤ). z -ℤ o) (index-pos n (x +ℤ o) p ∙ ap pos e ∙ sym (index-pos n (y +ℤ o) q))
-      ∙ +ℤ-negℤ-cancel y o
+  -- an index, less its offset, is the coordinate
+  back : (n : ℕ) (x o : ℤ) → indexBelow n (x +ℤ o) ≡ true → pos (clip (x +ℤ o)) -ℤ o ≡ x
+  back n x o e = ap (λ (z : ℤ). z -ℤ o) (sym (index-pos n (x +ℤ o) e)) ∙ +ℤ-negℤ-cancel x o
 
-  pub same-place : (v w : World) → On j v → On j w → entryIn j v ≡ entryIn j w → samePlace v w ≡ true
-  unfolding samePlace cellOf
-  same-place v w onv onw e =
-      let cv : clip (colZ v) < j .cols = index-clip (j .cols) (colZ v) (col-on onv) in
-      let cw : clip (colZ w) < j .cols = index-clip (j .cols) (colZ w) (col-on onw) in
-      let r : v .0 ≡ w .0 =
-      same-index (j .rows) (v .0) (w .0) (j .offset .0) (row-on onv) (row-on onw)
-      (sym (row-of (clip (rowZ v)) cv) ∙ ap (λ (n : ℕ). n / j .cols) e ∙ row-of (clip (rowZ w)) cw) in
-      let c : v .1 ≡ w .1 =
-      same-index (j .cols) (v .1) (w .1) (j .offset .1) (col-on onv) (col-on onw)
-      (sym (col-of (clip (rowZ v)) cv) ∙ ap (λ (n : ℕ). n % j .cols) e ∙ col-of (clip (rowZ w)) cw) in
-      and-both (eqZ (v .0) (w .0)) (eqZ (v .1) (w .1)) (rw r (eqZ-same (w .0))) (rw c (eqZ-same (w .1)))
+  -- the place of the cell of a place is the place itself
+  pub place-back : (v : World) → lies j v ≡ true → wallOf j (entryIn j v) ≡ v
+  unfolding wallOf cellOf
+  place-back v on =
+      let r : pos (entryIn j v / j .cols) -ℤ j .offset .0 ≡ v .0 =
+      rw (row-of (clip (rowZ v)) (col-low v on)) (back (j .rows) (v .0) (j .offset .0) (row-on v on)) in
+      let c : pos (entryIn j v % j .cols) -ℤ j .offset .1 ≡ v .1 =
+      rw (col-of (clip (rowZ v)) (col-low v on)) (back (j .cols) (v .1) (j .offset .1) (col-on v on)) in
+      λ i. record { 0 = r i; 1 = c i }
 
-  -- and one place has one cell
-  pub same-cell : (v w : World) → samePlace v w ≡ true → entryIn j v ≡ entryIn j w
-  unfolding samePlace cellOf
-  same-cell v w e =
-      let r : v .0 ≡ w .0 = eqZ-true (v .0) (w .0) (and-left (eqZ (v .0) (w .0)) (eqZ (v .1) (w .1)) e) in
-      let c : v .1 ≡ w .1 = eqZ-true (v .1) (w .1) (and-right (eqZ (v .0) (w .0)) (eqZ (v .1) (w .1)) e) in
-      rw (r, c)
+  -- cell k has a place on the board
+  pub wall-lies : (k : ℕ) → k < j .rows * j .cols → lies j (wallOf j k) ≡ true
+  unfolding wallOf onBoard
+  wall-lies k k< =
+      and-both _ _
+      (ap (indexBelow (j .rows)) (-ℤ-+ℤ-cancel (pos (k / j .cols)) (j .offset .0)) ∙ lt-ltb (k / j .cols) (j .rows) (row-in k (j .rows) (j .cols) k<))
+      (ap (indexBelow (j .cols)) (-ℤ-+ℤ-cancel (pos (k % j .cols)) (j .offset .1)) ∙ lt-ltb (k % j .cols) (j .cols) (col-in k (j .rows) (j .cols) k<))
+
+  -- and its cell is k
+  pub wall-cell : (k : ℕ) → entryIn j (wallOf j k) ≡ k
+  unfolding wallOf cellOf
+  wall-cell k =
+      rw (-ℤ-+ℤ-cancel (pos (k / j .cols)) (j .offset .0), -ℤ-+ℤ-cancel (pos (k % j .cols)) (j .offset .1)) (cell-is k (j .cols))
 
 -- index - offset is a wall coordinate
 less-offset : (n : ℕ) (o : ℤ) → n < maxBoardSide → withinZ minOffset maxOffset o ≡ true → withinZ minCoordinate maxCoordinate (pos n -ℤ o) ≡ true
@@ -96,43 +116,67 @@ less-offset n (negsuc m) h e =
 
 -- the bounds of the sides
 pub record Sides (rows cols : ℕ) : Type 0 where
-  pub rows-pos : 1 ≤ rows
   pub rows-low : rows ≤ maxBoardSide
-  pub cols-pos : 1 ≤ cols
   pub cols-low : cols ≤ maxBoardSide
 
 pub sides-in : (rows cols : ℕ) → boardSides rows cols ≡ true → Sides rows cols
 unfolding boardSides
 sides-in rows cols e =
-    let r = and-left (within 1 maxBoardSide rows) (within 1 maxBoardSide cols) e in
-    let c = and-right (within 1 maxBoardSide rows) (within 1 maxBoardSide cols) e in
     record {
-      rows-pos = within-low 1 maxBoardSide rows r;
-      rows-low = within-high 1 maxBoardSide rows r;
-      cols-pos = within-low 1 maxBoardSide cols c;
-      cols-low = within-high 1 maxBoardSide cols c;
+      rows-low = within-high 1 maxBoardSide rows (and-left (within 1 maxBoardSide rows) (within 1 maxBoardSide cols) e);
+      cols-low = within-high 1 maxBoardSide cols (and-right (within 1 maxBoardSide rows) (within 1 maxBoardSide cols) e);
     }
 
--- cell k has a place, and it is on the board
+-- where the sides and the offset are in bounds, it is a coordinate that a call may name
 pub wall-on : (j : Panel) (k : ℕ) → Sides (j .rows) (j .cols) → offsetFits (j .offset) ≡ true → k < j .rows * j .cols → On j (wallOf j k)
-unfolding wallOf onWall offsetFits onBoard
+unfolding wallOf onWall offsetFits
 wall-on j k sides fits k< =
-    let r< : k / j .cols < j .rows = row-lt k (j .rows) (j .cols) (sides .cols-pos) k< in
-    let c< : k % j .cols < j .cols = col-lt k (j .cols) (sides .cols-pos) in
+    let r< : k / j .cols < j .rows = row-in k (j .rows) (j .cols) k< in
+    let c< : k % j .cols < j .cols = col-in k (j .rows) (j .cols) k< in
     let o = j .offset in
     record {
       wall =
           and-both _ _
           (less-offset (k / j .cols) (o .0) (omega arith) (and-left (withinZ minOffset maxOffset (o .0)) (withinZ minOffset maxOffset (o .1)) fits))
           (less-offset (k % j .cols) (o .1) (omega arith) (and-right (withinZ minOffset maxOffset (o .0)) (withinZ minOffset maxOffset (o .1)) fits));
-      board =
-          and-both _ _
-          (ap (indexBelow (j .rows)) (-ℤ-+ℤ-cancel (pos (k / j .cols)) (o .0)) ∙ lt-ltb (k / j .cols) (j .rows) r<)
-          (ap (indexBelow (j .cols)) (-ℤ-+ℤ-cancel (pos (k % j .cols)) (o .1)) ∙ lt-ltb (k % j .cols) (j .cols) c<);
+      board = wall-lies j k k<;
     }
 
--- and its cell is k
-pub wall-cell : (j : Panel) (k : ℕ) → entryIn j (wallOf j k) ≡ k
-unfolding wallOf cellOf
-wall-cell j k =
-    rw (-ℤ-+ℤ-cancel (pos (k / j .cols)) (j .offset .0), -ℤ-+ℤ-cancel (pos (k % j .cols)) (j .offset .1)) (cell-is k (j .cols))
+-- ---- in the wider panel
+
+-- the index of a coordinate, moved by the pad before it
+moved : (n l : ℕ) (x o : ℤ) → indexBelow n (x +ℤ o) ≡ true → x +ℤ (o +ℤ pos l) ≡ pos (l + clip (x +ℤ o))
+moved n l x o e =
+    sym (+ℤ-assoc x o (pos l))
+    ∙ ap (λ (z : ℤ). z +ℤ pos l) (index-pos n (x +ℤ o) e)
+    ∙ pos-+ℤ-pos (clip (x +ℤ o)) l
+    ∙ ap pos (add-comm (clip (x +ℤ o)) l)
+
+module _ (j : Panel) (p : Pads) (v : World) (on : lies j v ≡ true) where
+  row-moved : v .0 +ℤ (j .offset .0 +ℤ pos (p .left)) ≡ pos (p .left + clip (rowZ j v))
+  row-moved = moved (j .rows) (p .left) (v .0) (j .offset .0) (row-on j v on)
+
+  col-moved : v .1 +ℤ (j .offset .1 +ℤ pos (p .top)) ≡ pos (p .top + clip (colZ j v))
+  col-moved = moved (j .cols) (p .top) (v .1) (j .offset .1) (col-on j v on)
+
+  -- a place on the board lies on the wider one
+  pub lies-wider : lies (wider j p) v ≡ true
+  unfolding onBoard extensionBy
+  lies-wider =
+      let r< : clip (rowZ j v) < j .rows = index-clip (j .rows) (rowZ j v) (row-on j v on) in
+      let c< : clip (colZ j v) < j .cols = col-low j v on in
+      and-both _ _
+      (ap (indexBelow (newRows (j .rows) p)) row-moved ∙ lt-ltb (p .left + clip (rowZ j v)) (newRows (j .rows) p) (omega arith))
+      (ap (indexBelow (newCols (j .cols) p)) col-moved ∙ lt-ltb (p .top + clip (colZ j v)) (newCols (j .cols) p) (omega arith))
+
+  -- and its cell there is where its cell was moved to
+  pub entry-wider : entryIn (wider j p) v ≡ embedded (j .cols) p (entryIn j v)
+  unfolding cellOf extensionBy
+  entry-wider = rw (row-moved, col-moved, row-of (clip (rowZ j v)) (col-low j v on), col-of (clip (rowZ j v)) (col-low j v on))
+
+-- the cells of the old panel keep their places
+pub wall-wider : (j : Panel) (p : Pads) (k : ℕ) → k < j .rows * j .cols → wallOf (wider j p) (embedded (j .cols) p k) ≡ wallOf j k
+wall-wider j p k k< =
+    let on : lies j (wallOf j k) ≡ true = wall-lies j k k< in
+    ap (wallOf (wider j p)) (ap (embedded (j .cols) p) (sym (wall-cell j k)) ∙ sym (entry-wider j p (wallOf j k) on))
+    ∙ place-back (wider j p) (wallOf j k) (lies-wider j p (wallOf j k) on)
