@@ -1,21 +1,9 @@
 // Fresh, which document 01 adds: the three planes of a board on which no piece stands. A refused call changes none of them.
-ghost use mathlib.Core.Path.{_≡_};
-ghost use lib.ListN.{length};
-ghost use Rattle.base.specs.Tables.{tab};
-ghost use Rattle.rules.specs.Promises.{before, after, boardBefore, boardAfter, Freshens};
+ghost use Rattle.rules.specs.Promises.{boardBefore, boardAfter, Freshens};
+use board_planes::fill;
 use board_planes::lengths_refused;
 use check_sizes::tile_number_fits;
 use rules::Written;
-
-fn fill(plane: &mut [u32], value: u32)
-    ensures { λ _. ⌜ after plane ≡ tab (length (before plane)) (λ k. value) ⌝ }
-{
-    let mut k = 0;
-    while k < plane.len() {
-        plane[k] = value;
-        k += 1;
-    }
-}
 
 // Pieces 1, weights 1, counts the number of tiles.
 pub fn fresh(

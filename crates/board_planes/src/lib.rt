@@ -1,18 +1,35 @@
-// The three planes of a board, pieces, weights and counts: the checks that fresh, lay and lift share.
+// The three planes of a board, pieces, weights and counts: the checks that the calls on a board share, and a plane filled with one value.
 ghost use mathlib.Core.Path.{_≡_};
 ghost use Prim.Native.Nat.{_≤_, _<_};
 ghost use lib.ListN.{length};
+ghost use Rattle.base.specs.Tables.{tab};
 ghost use Rattle.base.specs.Refusal.{refusal};
 ghost use Rattle.rules.specs.Bounds.{maxCells, maxTiles};
 ghost use Rattle.rules.specs.Grid.{entryOf};
-ghost use Rattle.rules.specs.Board.{boardLengths, boardContents, layingChecks, liftingChecks};
-ghost use Rattle.rules.specs.Promises.{before, boardBefore};
+ghost use Rattle.rules.specs.Board.{planeLengths, boardLengths, boardContents, layingChecks, liftingChecks};
+ghost use Rattle.rules.specs.Promises.{before, after, boardBefore};
 use check_contents::colours_refused;
 use check_contents::no_word_above;
 use check_sizes::board_sides;
 use check_sizes::cells_of;
 use check_sizes::words_have_length;
 use rules::Cell;
+
+// LENGTH of the three planes of a board of so many cells, 0 where all pass.
+pub fn planes_refused(pieces: &[u32], weights: &[u32], counts: &[u32], cells: usize) -> u8
+    ensures { λ r. ⌜ r ≡ refusal (planeLengths cells (boardBefore pieces weights counts)) ⌝ }
+{
+    if !words_have_length(pieces, cells) {
+        return rules::LENGTH;
+    }
+    if !words_have_length(weights, cells) {
+        return rules::LENGTH;
+    }
+    if !words_have_length(counts, cells) {
+        return rules::LENGTH;
+    }
+    0
+}
 
 // SHAPE and LENGTH of the three planes, 0 where all pass.
 pub fn lengths_refused(
@@ -27,17 +44,7 @@ pub fn lengths_refused(
     if !board_sides(rows, cols) {
         return rules::SHAPE;
     }
-    let cells = cells_of(rows, cols);
-    if !words_have_length(pieces, cells) {
-        return rules::LENGTH;
-    }
-    if !words_have_length(weights, cells) {
-        return rules::LENGTH;
-    }
-    if !words_have_length(counts, cells) {
-        return rules::LENGTH;
-    }
-    0
+    planes_refused(pieces, weights, counts, cells_of(rows, cols))
 }
 
 // COUNT, and CELL of all that is read, 0 where all pass; n is the number of tiles.
@@ -93,4 +100,14 @@ pub fn lifting_refused(pieces: &[u32], cols: usize, cell: Cell) -> u8
         return 0;
     }
     rules::BARE
+}
+
+pub fn fill(plane: &mut [u32], value: u32)
+    ensures { λ _. ⌜ after plane ≡ tab (length (before plane)) (λ k. value) ⌝ }
+{
+    let mut k = 0;
+    while k < plane.len() {
+        plane[k] = value;
+        k += 1;
+    }
 }

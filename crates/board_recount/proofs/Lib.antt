@@ -1,3 +1,4 @@
 pub mod Recounts
+pub mod Whole
 pub mod Leaning
 pub mod Coincide

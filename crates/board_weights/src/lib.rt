@@ -28,7 +28,7 @@ fn share_of(distance: usize) -> u32
 }
 
 // What a piece on `cell` adds at (row, col).
-fn share_at(cell: Cell, row: usize, col: usize) -> u32
+pub fn share_at(cell: Cell, row: usize, col: usize) -> u32
     ensures { λ r. ⌜ r ≡ share (distance cell (cellAt row col)) ⌝ }
 {
     share_of(distance(cell, row, col))

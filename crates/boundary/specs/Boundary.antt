@@ -4,9 +4,10 @@
 use Prim.Native.Nat.{ℕ}
 use mathlib.Core.Path.{_≡_}
 use mathlib.Core.List.{List}
+use lib.IntN.{ℤ}
 use lib.Ieee.{Float}
 use Rattle.base.specs.Refusal.{Gives}
-use Rattle.boundary_slots.specs.Slots.{put, digitOf}
+use Rattle.boundary_slots.specs.Slots.{put, offsetStored, digitOf}
 use Rattle.rules.specs.declared.TileBitset.{TileBitset}
 use Rattle.rules.specs.declared.Listing.{Listing}
 use Rattle.rules.specs.declared.Listing.the-variants as Listing·
@@ -30,6 +31,8 @@ use Rattle.rules.specs.declared.LayAnswer.{LayAnswer}
 use Rattle.rules.specs.declared.LayAnswer.the-variants as LayAnswer·
 use Rattle.rules.specs.declared.LiftAnswer.{LiftAnswer}
 use Rattle.rules.specs.declared.LiftAnswer.the-variants as LiftAnswer·
+use Rattle.rules.specs.declared.WidenAnswer.{WidenAnswer}
+use Rattle.rules.specs.declared.WidenAnswer.the-variants as WidenAnswer·
 
 -- r is the number of the answer of which, and of what the call leaves, its promise holds
 pub record Numbered {A B : Type 0} (number : A → ℕ) (promise : A → B → Type 0) (r : ℕ) (left : B) : Type 0 where
@@ -48,6 +51,18 @@ layNumber (LayAnswer·.Refused n) = n
 abbrev pub liftNumber : LiftAnswer → ℕ
 liftNumber LiftAnswer·.Lifted = 0
 liftNumber (LiftAnswer·.Refused n) = n
+
+-- a widening: the new offset
+abbrev pub widenNumber : WidenAnswer → ℕ
+widenNumber (WidenAnswer·.Widened offset) = 0
+widenNumber (WidenAnswer·.Refused n) = n
+
+abbrev pub widenLeft : WidenAnswer → List ℤ → List ℤ
+widenLeft (WidenAnswer·.Widened offset) out = offsetStored offset out
+widenLeft (WidenAnswer·.Refused n) out = out
+
+abbrev pub TellsWidening : WidenAnswer → List ℤ → ℕ → List ℤ → Type 0
+TellsWidening answer out = Gives (widenNumber answer) (widenLeft answer out)
 
 -- a set: its bits, then its size
 abbrev pub setStored : TileBitset → List ℕ → List ℕ

@@ -2,14 +2,16 @@
 // cell, a span or a set as its numbers. An entry past the end of such a slice is not stored; a refused call stores none.
 ghost use mathlib.Core.Path.{_≡_};
 ghost use Rattle.rules.specs.Promises.{before, after};
-ghost use Rattle.boundary.specs.Boundary.{writtenNumber, layNumber, liftNumber, TellsListing, TellsSet, TellsVerdict};
+ghost use Rattle.boundary.specs.Boundary.{writtenNumber, layNumber, liftNumber, TellsWidening, TellsListing, TellsSet, TellsVerdict};
 use boundary_slots::digit;
+use boundary_slots::put_offset;
 use boundary_slots::put_word;
 use rules::LayAnswer;
 use rules::LiftAnswer;
 use rules::Listing;
 use rules::SetAnswer;
 use rules::Verdict;
+use rules::WidenAnswer;
 use rules::Written;
 
 pub fn written(answer: Written) -> u32
@@ -36,6 +38,18 @@ pub fn lifted(answer: LiftAnswer) -> u32
     match answer {
         LiftAnswer::Lifted => 0,
         LiftAnswer::Refused(n) => n as u32,
+    }
+}
+
+pub fn widened(answer: WidenAnswer, out: &mut [i32]) -> u32
+    ensures { λ r. ⌜ TellsWidening answer (before out) r (after out) ⌝ }
+{
+    match answer {
+        WidenAnswer::Widened(offset) => {
+            put_offset(out, offset);
+            0
+        }
+        WidenAnswer::Refused(n) => n as u32,
     }
 }
 

@@ -1,5 +1,5 @@
--- What crosses to another language in both directions: places and sets from their numbers, a value in an entry of a lent slice, a
--- truth as a number.
+-- What crosses to another language in both directions: places, pads and sets from their numbers, a value in an entry of a lent slice, an
+-- offset in two, a truth as a number.
 use Prim.Native.Nat.{ℕ}
 use mathlib.Core.Bool.{Bool, true, false}
 use mathlib.Core.List.{List}
@@ -7,6 +7,7 @@ use lib.ListN.{set}
 use lib.IntN.{ℤ}
 use Rattle.rules.specs.declared.World.{World}
 use Rattle.rules.specs.declared.Offset.{Offset}
+use Rattle.rules.specs.declared.Pads.{Pads}
 use Rattle.rules.specs.declared.TileBitset.{TileBitset}
 
 -- ---- what goes in
@@ -17,6 +18,10 @@ world row col = record { 0 = row; 1 = col }
 abbrev pub offsetBy : ℤ → ℤ → Offset
 offsetBy row col = record { 0 = row; 1 = col }
 
+-- left and right are added to the rows, top and bottom to the columns
+abbrev pub padsBy : ℕ → ℕ → ℕ → ℕ → Pads
+padsBy left right top bottom = record { left = left; right = right; top = top; bottom = bottom }
+
 abbrev pub setFrom : ℕ → ℕ → TileBitset
 setFrom bits size = record { bits = bits; size = size }
 
@@ -25,6 +30,10 @@ setFrom bits size = record { bits = bits; size = size }
 -- a value stored at an entry; nothing where there is no such entry
 unfoldable pub put : {A : Type 0} → List A → ℕ → A → List A
 put l i v = set l i v
+
+-- an offset: that of the rows, then that of the columns
+abbrev pub offsetStored : Offset → List ℤ → List ℤ
+offsetStored offset out = put (put out 0 (offset .0)) 1 (offset .1)
 
 -- a truth: 0 or 1
 abbrev pub digitOf : Bool → ℕ

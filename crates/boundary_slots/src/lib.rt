@@ -1,8 +1,8 @@
 // What every crossing to another language uses: a value put into an entry of a lent slice, a place or an offset taken from its two numbers,
-// a truth as 0 or 1. An entry past the end of such a slice is not stored.
+// an offset put into two entries, a truth as 0 or 1. An entry past the end of such a slice is not stored.
 ghost use mathlib.Core.Path.{_≡_};
 ghost use Rattle.rules.specs.Promises.{before, after};
-ghost use Rattle.boundary_slots.specs.Slots.{put, world, offsetBy, digitOf};
+ghost use Rattle.boundary_slots.specs.Slots.{put, world, offsetBy, offsetStored, digitOf};
 use rules::Offset;
 use rules::World;
 
@@ -44,6 +44,13 @@ pub fn put_signed(numbers: &mut [i32], at: usize, number: i32)
     if at < numbers.len() {
         numbers[at] = number;
     }
+}
+
+pub fn put_offset(numbers: &mut [i32], offset: Offset)
+    ensures { λ _. ⌜ after numbers ≡ offsetStored offset (before numbers) ⌝ }
+{
+    put_signed(numbers, 0, offset.0);
+    put_signed(numbers, 1, offset.1);
 }
 
 pub fn world_at(row: i32, col: i32) -> World

@@ -4,8 +4,9 @@ use Prim.Native.Nat.{ℕ}
 use mathlib.Core.List.{List}
 use lib.IntN.{ℤ}
 use Rattle.rules.specs.Board.{Board}
+use Rattle.rules.specs.declared.Pads.{Pads}
 use Rattle.boundary.proofs.Back.{Decides, gives-decides, numbered-decides}
-use Rattle.desk.specs.Desk.{DeskLists, DeskLays, DeskLifts}
+use Rattle.desk.specs.Desk.{DeskLists, DeskLays, DeskLifts, DeskWidens}
 
 module _ (rows cols : ℕ) (tiles : List ℕ) (count : ℕ) (row col down across : ℤ) where
   pub fitting-coincide : (pieces found : List ℕ) → Decides (DeskLists pieces rows cols tiles count row col down across found)
@@ -16,3 +17,7 @@ module _ (rows cols : ℕ) (tiles : List ℕ) (count : ℕ) (row col down across
 
   pub lift-coincide : (old : Board) → Decides (DeskLifts rows cols tiles count row col down across old)
   lift-coincide old = numbered-decides _ _ (gives-decides _ _)
+
+pub widen-coincide : (rows cols : ℕ) (p : Pads) (tiles : List ℕ) (count : ℕ) (down across : ℤ) (old lent : Board) (offset : List ℤ)
+    → Decides (DeskWidens rows cols p tiles count down across old lent offset)
+widen-coincide rows cols p tiles count down across old lent offset = gives-decides _ _

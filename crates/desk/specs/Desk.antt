@@ -6,11 +6,13 @@ use Rattle.base.specs.Refusal.{Gives}
 use Rattle.rules.specs.Grid.{flat}
 use Rattle.rules.specs.Fit.{listing}
 use Rattle.rules.specs.Board.{Board}
+use Rattle.rules.specs.Widening.{widening, afterWiden}
 use Rattle.rules.specs.Promises.{panel, Lays, Lifts}
+use Rattle.rules.specs.declared.Pads.{Pads}
 use Rattle.rules.specs.declared.Listing.{Listing}
 use Rattle.rules.specs.declared.Listing.the-variants as Listing·
 use Rattle.boundary_slots.specs.Slots.{put, world, offsetBy}
-use Rattle.boundary.specs.Boundary.{Numbered, listingNumber, layNumber, liftNumber}
+use Rattle.boundary.specs.Boundary.{Numbered, listingNumber, layNumber, liftNumber, widenNumber, widenLeft}
 
 -- what a listing leaves in the entries lent for it: the set of colours in the first, colour t as bit t-1; nothing where it is refused
 abbrev pub coloursLeft : Listing → List ℕ → List ℕ
@@ -31,3 +33,17 @@ DeskLays rows cols tiles count row col down across colour old =
 abbrev pub DeskLifts : ℕ → ℕ → List ℕ → ℕ → ℤ → ℤ → ℤ → ℤ → Board → ℕ → Board → Type 0
 DeskLifts rows cols tiles count row col down across old =
     Numbered liftNumber (Lifts (panel rows cols tiles (offsetBy down across)) count (world row col) old)
+
+-- what is lent to a widening: the larger planes, and the entries for its offset
+pub record Larger : Type 0 where
+  pub planes : Board
+  pub offset : List ℤ
+
+abbrev pub larger : Board → List ℤ → Larger
+larger planes offset = record { planes = planes; offset = offset }
+
+abbrev pub DeskWidens : ℕ → ℕ → Pads → List ℕ → ℕ → ℤ → ℤ → Board → Board → List ℤ → ℕ → Larger → Type 0
+DeskWidens rows cols p tiles count down across old lent out =
+    let j = panel rows cols tiles (offsetBy down across) in
+    let answer = widening j count old p lent in
+    Gives (widenNumber answer) (larger (afterWiden j count old p lent) (widenLeft answer out))

@@ -1,14 +1,17 @@
-// The functions of the desk program, which is C: fitting colours, lay and lift on numbers, byte tiles and u32 planes. include/desk.h is
+// The functions of the desk program, which is C: fitting colours, lay, lift and widening on numbers, byte tiles and u32 planes. include/desk.h is
 // their C side, for the C programmer; a place goes over as a row and a column on the wall, the offset likewise, each answer is 0 or
 // document 01's refusal number.
 ghost use Rattle.rules.specs.Promises.{before, after, boardBefore, boardAfter};
-ghost use Rattle.desk.specs.Desk.{TellsColours, DeskLists, DeskLays, DeskLifts};
+ghost use Rattle.boundary_slots.specs.Slots.{padsBy};
+ghost use Rattle.desk.specs.Desk.{TellsColours, DeskLists, DeskLays, DeskLifts, DeskWidens, larger};
 use boundary::laid;
 use boundary::lifted;
+use boundary::widened;
 use boundary_slots::offset_at;
 use boundary_slots::put_long;
 use boundary_slots::world_at;
 use rules::Listing;
+use rules::Pads;
 
 // The set goes over in one entry of 64 bits, so that sets of up to 64 colours leave the C side as it is; further entries are for what a
 // listing may tell one day beside its colours.
@@ -119,4 +122,52 @@ pub extern "C" fn desk_lift(
         offset,
     );
     lifted(answer)
+}
+
+// The board goes into three larger planes, and the new offset into the first two entries of `offset`: rows, then columns.
+#[no_mangle]
+pub extern "C" fn desk_widen(
+    widepieces: &mut [u32],
+    wideweights: &mut [u32],
+    widecounts: &mut [u32],
+    pieces: &[u32],
+    weights: &[u32],
+    counts: &[u32],
+    rows: usize,
+    cols: usize,
+    left: usize,
+    right: usize,
+    top: usize,
+    bottom: usize,
+    tiles: &[u8],
+    count: u32,
+    down: i32,
+    across: i32,
+    offset: &mut [i32],
+) -> u32
+    ensures { λ r. ⌜ DeskWidens rows cols (padsBy left right top bottom) (before tiles) count down across (boardBefore pieces weights counts)
+        (boardBefore widepieces wideweights widecounts) (before offset) r (larger (boardAfter widepieces wideweights widecounts) (after offset)) ⌝ }
+{
+    let pads = Pads {
+        left,
+        right,
+        top,
+        bottom,
+    };
+    let from = offset_at(down, across);
+    let answer = board_widen::widen(
+        widepieces,
+        wideweights,
+        widecounts,
+        pieces,
+        weights,
+        counts,
+        rows,
+        cols,
+        pads,
+        tiles,
+        count,
+        from,
+    );
+    widened(answer, offset)
 }

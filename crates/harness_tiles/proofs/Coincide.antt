@@ -12,9 +12,9 @@ use Rattle.rules.specs.Places.{boxContains, extensionOf, boxedExtension}
 use Rattle.rules.specs.Sets.{membersListed}
 use Rattle.rules.specs.Tiles.{rotated, reflected, membership}
 use Rattle.rules.specs.Promises.{CopiesWords, CopiesFloats}
-use Rattle.boundary_slots.specs.Slots.{world, offsetBy, setFrom}
+use Rattle.boundary_slots.specs.Slots.{world, offsetBy, padsBy, setFrom}
 use Rattle.boundary.specs.Boundary.{Numbered, writtenNumber, TellsSet, TellsVerdict}
-use Rattle.harness_tiles.specs.Lent.{boxOf, padsBy, nineOf, putFrom, TellsExtension, TellsMembers, PortExtracts, extended, bytesWith}
+use Rattle.harness_tiles.specs.Lent.{boxOf, nineOf, putFrom, TellsExtension, TellsMembers, PortExtracts, extended, bytesWith}
 use Rattle.rules.specs.declared.ExtensionAnswer.{ExtensionAnswer}
 use Rattle.boundary.proofs.Back.{lent, Decides, gives-decides, numbered-decides}
 

@@ -1,4 +1,4 @@
--- What crosses beside what crates boundary_slots and boundary have: a box and pads from their numbers, a tile from a slice, and what an
+-- What crosses beside what crates boundary_slots and boundary have: a box from its numbers, a tile from a slice, and what an
 -- extension, a list of colours and a store of tiles leave in the slices lent for them. The promises of functions that tell such an answer take these
 -- slices as they are lent, for what they hold before and after.
 use Prim.Native.Nat.{ℕ, _+_}
@@ -11,12 +11,11 @@ use Rattle.base.specs.Refusal.{unlessRefused, Gives}
 use Rattle.rules.specs.Promises.{Lent, before, after}
 use Rattle.rules.specs.Tiles.{extraction, storeAfter}
 use Rattle.rules.specs.declared.BoundingBox.{BoundingBox}
-use Rattle.rules.specs.declared.Offset.{Offset}
 use Rattle.rules.specs.declared.Pads.{Pads}
 use Rattle.rules.specs.declared.ColourList.{ColourList}
 use Rattle.rules.specs.declared.ExtensionAnswer.{ExtensionAnswer}
 use Rattle.rules.specs.declared.ExtensionAnswer.the-variants as ExtensionAnswer·
-use Rattle.boundary_slots.specs.Slots.{world, put, digitOf}
+use Rattle.boundary_slots.specs.Slots.{world, put, offsetStored, digitOf}
 use Rattle.boundary.specs.Boundary.{tilesNumber, tilesLeft}
 
 -- ---- what goes in
@@ -24,10 +23,6 @@ use Rattle.boundary.specs.Boundary.{tilesNumber, tilesLeft}
 -- the corner of the least row and column, then the other
 abbrev pub boxOf : ℤ → ℤ → ℤ → ℤ → BoundingBox
 boxOf minrow mincol maxrow maxcol = record { min = world minrow mincol; max = world maxrow maxcol }
-
--- left and right are added to the rows, top and bottom to the columns
-abbrev pub padsBy : ℕ → ℕ → ℕ → ℕ → Pads
-padsBy left right top bottom = record { left = left; right = right; top = top; bottom = bottom }
 
 -- the first nine bytes; one that the slice lacks counts as 0
 unfoldable pub nineOf : List ℕ → List ℕ
@@ -43,10 +38,6 @@ putFrom i (x ∷ xs) out = putFrom (i + 1) xs (put out i x)
 -- left, right, top, bottom
 abbrev pub padsStored : Pads → List ℕ → List ℕ
 padsStored p out = put (put (put (put out 0 (p .left)) 1 (p .right)) 2 (p .top)) 3 (p .bottom)
-
--- row, column
-abbrev pub offsetStored : Offset → List ℤ → List ℤ
-offsetStored offset out = put (put out 0 (offset .0)) 1 (offset .1)
 
 -- the slices lent for an extension
 pub record Extended : Type 0 where

@@ -3,17 +3,16 @@
 ghost use mathlib.Core.Path.{_≡_};
 ghost use lib.ListN.{getD};
 ghost use Rattle.rules.specs.Promises.{before, after};
-ghost use Rattle.harness_tiles.specs.Lent.{boxOf, nineOf, putFrom, padsStored, offsetStored, TellsExtension, TellsMembers};
+ghost use Rattle.harness_tiles.specs.Lent.{boxOf, nineOf, putFrom, padsStored, TellsExtension, TellsMembers};
 use boundary_slots::digit;
 use boundary_slots::put_byte;
 use boundary_slots::put_long;
-use boundary_slots::put_signed;
+use boundary_slots::put_offset;
 use boundary_slots::put_word;
 use boundary_slots::world_at;
 use rules::BoundingBox;
 use rules::ColourList;
 use rules::ExtensionAnswer;
-use rules::Offset;
 use rules::Pads;
 
 pub fn box_at(minrow: i32, mincol: i32, maxrow: i32, maxcol: i32) -> BoundingBox
@@ -60,13 +59,6 @@ fn put_pads(out: &mut [u64], pads: Pads)
     put_long(out, 1, pads.right as u64);
     put_long(out, 2, pads.top as u64);
     put_long(out, 3, pads.bottom as u64);
-}
-
-fn put_offset(out: &mut [i32], offset: Offset)
-    ensures { λ _. ⌜ after out ≡ offsetStored offset (before out) ⌝ }
-{
-    put_signed(out, 0, offset.0);
-    put_signed(out, 1, offset.1);
 }
 
 pub fn extension_given(

@@ -1,12 +1,12 @@
--- `board_fresh::fill` meets its contract. The loop's invariant: the cells passed hold the value, the rest what they held. Assumes nothing.
+-- `board_planes::fill` meets its contract. The loop's invariant: the cells passed hold the value, the rest what they held. Assumes nothing.
 use Prim.Native.Nat.{_-_, _≤_}
 use mathlib.Core.Path.{_≡_, refl, _∙_}
 use native.Mathlib.Omega.{arith}
 use lib.ListN.{length, length-set}
 use Rattle.base.proofs.Swept.{swept, swept-none, swept-turn, swept-all}
 use borrow.Author.Needs.{needs}
-use Rattle.board_fresh.proofs.fill.Statement.{statement}
-use Rattle.board_fresh.proofs.fill.Tie as tie
+use Rattle.board_planes.proofs.fill.Statement.{statement}
+use Rattle.board_planes.proofs.fill.Tie as tie
 
 abbrev Inv-loop : tie.InvT-loop
 Inv-loop plane₀ value k₀ plane k = (length plane ≡ length plane₀) × (k ≤ length plane₀) × (plane ≡ swept 0 k (λ j. value) plane₀)

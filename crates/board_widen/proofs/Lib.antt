@@ -1,0 +1,4 @@
+pub mod Weights
+pub mod Pieces
+pub mod Leaning
+pub mod Coincide
