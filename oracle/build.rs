@@ -24,7 +24,7 @@ const FILES: [(&str, &str, Option<&str>); 10] = [
     ("algorithm", "deadlock", Some("deadlock")),
 ];
 
-/// The crates of the port that export calls: the desk's three functions, and the others for tests.
+/// The crates of the port that export calls: the desk's functions, and the others for tests.
 const PORT: [&str; 5] = ["desk", "harness", "harness_floats", "harness_forced", "harness_tiles"];
 
 fn main() {

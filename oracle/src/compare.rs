@@ -8,6 +8,7 @@ pub mod queue;
 pub mod sequences;
 pub mod sets;
 pub mod tiles;
+pub mod widen;
 
 use crate::calls::{NUMBER, Refusal};
 use crate::inputs::{self, TileList};
@@ -50,10 +51,10 @@ pub trait Input: Clone + Debug {
 
     fn smaller(&self) -> Vec<Self>;
 
-    /// Document 01's table on this input.
+    /// The refusal table on this input.
     fn refusal(&self) -> Option<Refusal>;
 
-    /// By the table if it is refused, by the text if not.
+    /// By the table if it is refused, by the text if not; widening, which the text has not, by document 02's rule.
     fn expected(&self) -> Outcome;
 
     /// By the port.
@@ -402,6 +403,7 @@ pub fn all() -> Vec<Named> {
     family::<tiles::TileInput>(&mut all);
     family::<sets::SetInput>(&mut all);
     family::<board::BoardInput>(&mut all);
+    family::<widen::WidenInput>(&mut all);
     family::<queue::QueueInput>(&mut all);
     family::<probabilities::ProbabilityInput>(&mut all);
     family::<sequences::SequenceInput>(&mut all);

@@ -580,6 +580,14 @@ pub fn fewer(number: usize) -> Vec<usize> {
     smaller
 }
 
+pub fn smaller_pads(pads: Pads) -> Vec<Pads> {
+    let mut all: Vec<Pads> = fewer(pads.left).into_iter().map(|left| Pads { left, ..pads }).collect();
+    all.extend(fewer(pads.right).into_iter().map(|right| Pads { right, ..pads }));
+    all.extend(fewer(pads.top).into_iter().map(|top| Pads { top, ..pads }));
+    all.extend(fewer(pads.bottom).into_iter().map(|bottom| Pads { bottom, ..pads }));
+    all
+}
+
 /// The same cell with a plainer offset, and places nearer to the origin.
 pub fn plainer_places(world: World, offset: Offset) -> Vec<(World, Offset)> {
     let mut places = Vec::new();

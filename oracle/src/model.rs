@@ -1,4 +1,4 @@
-//! Document 01's rules in plain Rust, under the names of src/port.rs. It stands in the port's place so that the driver can
+//! The rules of document 01, and document 02's widening, in plain Rust, under the names of src/port.rs. It stands in the port's place so that the driver can
 //! be tried with no port at hand, and shows where the text and document 01 part. Nothing is concluded from it about the
 //! port. Refusals are those of src/refusals.rs, so of these it says nothing.
 
@@ -37,10 +37,21 @@ pub enum Slip {
     SumByColumns,
     NormaliseBySumOnly,
     InfiniteLargestDivides,
+    /// as the text's copy has them
+    WidenedWeightsOne,
+    WidenedOldWeightsAnew,
+    WidenedCountsCopied,
+    /// regions that passed the old bottom or right edge keep their counts
+    WidenedEdgeCountsStay,
+    /// left and top
+    WidenedPadsExchanged,
+    WidenedOffsetStays,
+    WidenReadsNewPlanes,
+    RefusedWidenFills,
 }
 
 impl Slip {
-    pub const ALL: [Slip; 28] = [
+    pub const ALL: [Slip; 36] = [
         Slip::SkipBottomWindows,
         Slip::SkipRightWindows,
         Slip::KeepTopWindows,
@@ -69,6 +80,14 @@ impl Slip {
         Slip::SumByColumns,
         Slip::NormaliseBySumOnly,
         Slip::InfiniteLargestDivides,
+        Slip::WidenedWeightsOne,
+        Slip::WidenedOldWeightsAnew,
+        Slip::WidenedCountsCopied,
+        Slip::WidenedEdgeCountsStay,
+        Slip::WidenedPadsExchanged,
+        Slip::WidenedOffsetStays,
+        Slip::WidenReadsNewPlanes,
+        Slip::RefusedWidenFills,
     ];
 }
 
@@ -639,6 +658,97 @@ pub fn lift(
         pieces[cell.0 * cols + cell.1] = 1;
         lower(weights, cols, cell);
         recounted(counts, pieces, rows, cols, tiles, cell);
+    })
+}
+
+// ---- widening
+
+/// The entry of the old planes that goes to a cell of the new ones; none where the cell is new.
+fn old_entry(rows: usize, cols: usize, pads: Pads, cell: Cell) -> Option<usize> {
+    let (before_rows, before_cols) =
+        if slips(Slip::WidenedPadsExchanged) { (pads.top, pads.left) } else { (pads.left, pads.top) };
+    let row = cell.0.checked_sub(before_rows).filter(|&row| row < rows)?;
+    let col = cell.1.checked_sub(before_cols).filter(|&col| col < cols)?;
+    Some(row * cols + col)
+}
+
+/// Demand 3's weight of a cell: the pieces in the 5x5 patch round it.
+fn weight_from_pieces(pieces: &[u32], rows: usize, cols: usize, cell: Cell) -> u32 {
+    let mut weight = 1;
+    for row in cell.0.saturating_sub(2)..(cell.0 + 3).min(rows) {
+        for col in cell.1.saturating_sub(2)..(cell.1 + 3).min(cols) {
+            if pieces[row * cols + col] > 1 {
+                weight += reach(cell, Cell(row, col));
+            }
+        }
+    }
+    weight
+}
+
+fn widened_weight(wide: &[u32], rows: usize, cols: usize, cell: Cell, old: Option<u32>) -> u32 {
+    match old {
+        Some(weight) if !slips(Slip::WidenedOldWeightsAnew) => weight,
+        None if slips(Slip::WidenedWeightsOne) => 1,
+        _ => weight_from_pieces(wide, rows, cols, cell),
+    }
+}
+
+/// Demand 3's count of a region.
+fn count_from_pieces(pieces: &[u32], rows: usize, cols: usize, tiles: &[u8], start: Cell) -> u32 {
+    if start.0 + 2 < rows && start.1 + 2 < cols {
+        fit_count(&pattern(pieces, rows, cols, start.0, start.1), tiles)
+    } else {
+        (tiles.len() / 9) as u32
+    }
+}
+
+/// Whether a slip keeps the old count at this entry.
+fn count_stays(rows: usize, cols: usize, entry: usize) -> bool {
+    let past = entry / cols + 2 >= rows || entry % cols + 2 >= cols;
+    slips(Slip::WidenedCountsCopied) || slips(Slip::WidenedEdgeCountsStay) && past
+}
+
+/// Document 02's request 1, cell by cell of the new planes.
+pub fn widen(
+    wide_pieces: &mut [u32],
+    wide_weights: &mut [u32],
+    wide_counts: &mut [u32],
+    pieces: &[u32],
+    weights: &[u32],
+    counts: &[u32],
+    rows: usize,
+    cols: usize,
+    pads: Pads,
+    tiles: &[u8],
+    count: u32,
+    offset: Offset,
+    new_offset: &mut [i32],
+) -> Answer<()> {
+    let lengths = [wide_pieces.len(), wide_weights.len(), wide_counts.len()];
+    let mut refused = refusals::widen(lengths, pieces, weights, counts, rows, cols, pads, tiles, count, offset);
+    if refused.is_none() && slips(Slip::WidenReadsNewPlanes) && wide_pieces.iter().any(|&old| old > count + 1) {
+        refused = Some(CELL);
+    }
+    if refused.is_some() && slips(Slip::RefusedWidenFills) {
+        wide_pieces.fill(1);
+    }
+    unless(refused, || {
+        let (new_rows, new_cols) = (pads.left + rows + pads.right, pads.top + cols + pads.bottom);
+        let cell = |k: usize| Cell(k / new_cols, k % new_cols);
+        let old = |k: usize| old_entry(rows, cols, pads, cell(k));
+        for (k, piece) in wide_pieces.iter_mut().enumerate() {
+            *piece = old(k).map_or(1, |entry| pieces[entry]);
+        }
+        for (k, weight) in wide_weights.iter_mut().enumerate() {
+            *weight = widened_weight(wide_pieces, new_rows, new_cols, cell(k), old(k).map(|entry| weights[entry]));
+        }
+        for (k, count) in wide_counts.iter_mut().enumerate() {
+            let kept = old(k).filter(|&entry| count_stays(rows, cols, entry));
+            let anew = || count_from_pieces(wide_pieces, new_rows, new_cols, tiles, cell(k));
+            *count = kept.map_or_else(anew, |entry| counts[entry]);
+        }
+        let by = if slips(Slip::WidenedOffsetStays) { (0, 0) } else { (pads.left as i32, pads.top as i32) };
+        new_offset.iter_mut().zip([offset.0 + by.0, offset.1 + by.1]).for_each(|(entry, part)| *entry = part);
     })
 }
 

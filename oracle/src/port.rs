@@ -2,7 +2,7 @@
 //!
 //! The boundary is numbers and slices. A slice goes over as a pointer and its number of elements. Each exported function
 //! answers 0 or a refusal's number; what it finds goes into lent slices of exactly the length named here, which a refused
-//! call leaves as they were. Fitting colours, lay and lift are the desk's own functions, the others are exported for
+//! call leaves as they were. Fitting colours, lay, lift and widen are the desk's own functions, the others are exported for
 //! tests. Nothing checks these declarations against the port's source but the runs themselves.
 
 use crate::calls::*;
@@ -141,6 +141,16 @@ unsafe extern "C" {
         pieces: *mut u32, pieces_len: usize, weights: *mut u32, weights_len: usize, counts: *mut u32, counts_len: usize,
         rows: usize, cols: usize, tiles: *const u8, tiles_len: usize, count: u32, row: i32, col: i32, down: i32,
         across: i32,
+    ) -> u32;
+
+    // the new planes come first; offset: down and across as they then are, further entries are left alone
+    fn desk_widen(
+        widepieces: *mut u32, widepieces_len: usize, wideweights: *mut u32, wideweights_len: usize,
+        widecounts: *mut u32, widecounts_len: usize,
+        pieces: *const u32, pieces_len: usize, weights: *const u32, weights_len: usize,
+        counts: *const u32, counts_len: usize,
+        rows: usize, cols: usize, left: usize, right: usize, top: usize, bottom: usize,
+        tiles: *const u8, tiles_len: usize, count: u32, down: i32, across: i32, offset: *mut i32, offset_len: usize,
     ) -> u32;
 
     fn port_normalise(
@@ -727,6 +737,35 @@ pub fn lift(
         desk_lift(
             pieces.as_mut_ptr(), pieces.len(), weights.as_mut_ptr(), weights.len(), counts.as_mut_ptr(), counts.len(),
             rows, cols, tiles.as_ptr(), tiles.len(), count, world.0, world.1, offset.0, offset.1,
+        )
+    };
+    answer(refused, ())
+}
+
+/// The new offset goes into a slice of any length that the caller lends: a short one gets less of it.
+pub fn widen(
+    wide_pieces: &mut [u32],
+    wide_weights: &mut [u32],
+    wide_counts: &mut [u32],
+    pieces: &[u32],
+    weights: &[u32],
+    counts: &[u32],
+    rows: usize,
+    cols: usize,
+    pads: Pads,
+    tiles: &[u8],
+    count: u32,
+    offset: Offset,
+    new_offset: &mut [i32],
+) -> Answer<()> {
+    let Pads { left, right, top, bottom } = pads;
+    let refused = unsafe {
+        desk_widen(
+            wide_pieces.as_mut_ptr(), wide_pieces.len(), wide_weights.as_mut_ptr(), wide_weights.len(),
+            wide_counts.as_mut_ptr(), wide_counts.len(),
+            pieces.as_ptr(), pieces.len(), weights.as_ptr(), weights.len(), counts.as_ptr(), counts.len(),
+            rows, cols, left, right, top, bottom, tiles.as_ptr(), tiles.len(), count, offset.0, offset.1,
+            new_offset.as_mut_ptr(), new_offset.len(),
         )
     };
     answer(refused, ())

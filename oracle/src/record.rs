@@ -1,7 +1,7 @@
 //! The fixed list: a sample of the oracle's answers, written so that a program replays it with no Rust at hand.
 //!
-//! A file for the extraction of tiles, for each step on a board that has whole numbers alone, and for each function of
-//! the desk; a record for each line. A record has the arguments of the port's exported function in their
+//! A file for the extraction of tiles, for each step on a board that has whole numbers alone, and for the desk's fitting
+//! colours, lay and lift; a record for each line. A record has the arguments of the port's exported function in their
 //! order, without the slices lent for its answer; after `=` 0 or the refusal's number, what each slice lent for the
 //! answer then holds (nothing where the call is refused), and what each plane that the call may write then holds. The
 //! parts are kept apart by `|`; a part is a number, or the entries of a slice, in decimal. An i32 is written as the u32

@@ -1,5 +1,6 @@
-//! Document 01's refusal table, said once more and on its own: for each call, every rule that applies to it. Of those that
-//! hold, the lowest number is the answer. Only the tile store's ROOM stands with its step, which knows the tiles.
+//! Document 01's refusal table, said once more and on its own, with what document 02 adds for widening: for each call,
+//! every rule that applies to it. Of those that hold, the lowest number is the answer. Only the tile store's ROOM stands
+//! with its step, which knows the tiles.
 
 use crate::calls::*;
 
@@ -296,6 +297,36 @@ pub fn lay_or_lift(
     ])
 }
 
+/// Of the new planes only the lengths: what stands in them is not read. The new offset is one of document 01's offsets too.
+pub fn widen(
+    wide: [usize; 3],
+    pieces: &[u32],
+    weights: &[u32],
+    counts: &[u32],
+    rows: usize,
+    cols: usize,
+    pads: Pads,
+    tiles: &[u8],
+    colours: u32,
+    given: Offset,
+) -> Option<Refusal> {
+    let [a, b, c, d] = laid(pieces, rows, cols, tiles, colours);
+    let wrong = |plane: &[u32]| length(plane.len(), &[rows, cols]);
+    let (new_rows, new_cols) = padded(rows, cols, pads);
+    let moved = |part: i32, pad: usize| i128::from(part) + pad as i128 > 1_000_000;
+    lowest(&[
+        a,
+        b,
+        c,
+        d,
+        (sides(new_rows, new_cols), SHAPE),
+        (wrong(weights) || wrong(counts), LENGTH),
+        (wide.iter().any(|&len| length(len, &[new_rows, new_cols])), LENGTH),
+        (weights_cells(weights) || counts_cells(counts, tiles.len() / 9), CELL),
+        (offset(given) || moved(given.0, pads.left) || moved(given.1, pads.top), PLACE),
+    ])
+}
+
 // ---- the queue
 
 fn queue_rules(queue: &ForcedPipeline) -> [(bool, Refusal); 2] {
@@ -455,6 +486,24 @@ mod tests {
         assert_eq!(normalise(&[-0.0], 1, 1, 1, World(0, 0), Offset(0, 0), &[f64::NAN]), None);
         assert_eq!(normalise(&[f64::INFINITY], 1, 1, 1, World(9, 9), Offset(0, 0), &[0.0]), None);
         assert_eq!(normalise(&[f64::NAN], 1, 1, 1, World(9, 9), Offset(0, 0), &[0.0]), Some(NUMBER));
+    }
+
+    /// Of a widening: the new sides and planes before COUNT and CELL, the new offset last; no sum of pads wraps round.
+    #[test]
+    fn widening() {
+        let pads = |left, bottom| Pads { left, right: 0, top: 0, bottom };
+        let refused = |wide: usize, pads, weight, count, down| {
+            widen([wide; 3], &[1], &[weight], &[0], 1, 1, pads, &[0; 9], count, Offset(down, 0))
+        };
+        assert_eq!(refused(64 * 3, pads(63, 2), 0, 30, 1_000_000 - 63), None);
+        assert_eq!(refused(64 * 3, pads(63, 2), 0, 30, 1_000_000 - 62), Some(PLACE));
+        assert_eq!(refused(64 * 3, pads(63, 2), 4_000_000_001, 30, i32::MAX), Some(CELL));
+        assert_eq!(refused(64 * 3, pads(63, 2), 4_000_000_001, 31, i32::MAX), Some(COUNT));
+        assert_eq!(refused(64 * 3 + 1, pads(63, 2), 4_000_000_001, 31, i32::MAX), Some(LENGTH));
+        assert_eq!(refused(65 * 3, pads(64, 2), 4_000_000_001, 31, i32::MAX), Some(SHAPE));
+        assert_eq!(refused(1, pads(0, 0), 4_000_000_000, 1, -999_937), None);
+        assert_eq!(refused(0, pads(usize::MAX, 0), 0, 1, 0), Some(SHAPE));
+        assert_eq!(refused(3, pads(usize::MAX, 2), 0, 1, i32::MIN), Some(SHAPE));
     }
 
     /// Products of sides that no length reaches.

@@ -1,7 +1,8 @@
 //! The smallest input of the works' accident, on the text and, with the port linked, on its compiled functions: a panel is
 //! widened by the text's own growing, which gives new cells weight 1, and then a piece near the former edge is lifted.
 //! The lift takes from the new cells what no lay gave them. So a piece that is laid two cells from one of them leaves it
-//! at a weight that the scan for dead ends passes over, although no colour fits there.
+//! at a weight that the scan for dead ends passes over, although no colour fits there. With the port linked also the
+//! accident the other way round: widened by document 02's rule, the same panel has no such cell.
 
 use oracle::steps::{self, Board, Cache, Job};
 
@@ -19,6 +20,7 @@ const LAID: [u32; 9] = [3, 3, 1, 3, 4, 1, 1, 1, 1];
 const LAID_FRESH: [u32; 9] = [4, 4, 2, 4, 4, 2, 2, 2, 2];
 
 const BARE: [u32; 9] = [1; 9];
+const MIDDLE: [u32; 9] = [1, 1, 1, 1, 2, 1, 1, 1, 1];
 const CORNER: [u32; 9] = [2, 1, 1, 1, 1, 1, 1, 1, 1];
 
 #[test]
@@ -30,7 +32,7 @@ fn lifted_after_widening() {
 
     let offset = board.extend([0, 0], [0, 0], 1);
     assert_eq!((board.sides(), offset), ([3, 3], [1, 1]));
-    assert_eq!(board.pieces(), [1, 1, 1, 1, 2, 1, 1, 1, 1]);
+    assert_eq!(board.pieces(), MIDDLE);
     assert_eq!(board.weights(), WIDENED);
     assert_eq!(from_the_pieces(&board), [4; 9]);
 
@@ -84,26 +86,37 @@ mod outcome;
 #[path = "../src/port.rs"]
 mod port;
 
+#[cfg(feature = "port")]
+const PADS: calls::Pads = calls::Pads { left: 1, right: 1, top: 1, bottom: 1 };
+
+/// The panel before it is widened: one cell with a piece of colour 1, at the wall's origin.
+#[cfg(feature = "port")]
+fn panel() -> ([u32; 1], [u32; 1], [u32; 1]) {
+    use calls::{Offset, World};
+    let (mut pieces, mut weights, mut counts) = ([0], [0], [0]);
+    assert_eq!(port::fresh(&mut pieces, &mut weights, &mut counts, 1, 1, 1), Ok(()));
+    let (colours, origin) = (COLOURS as u32, World(0, 0));
+    let laid = port::lay(&mut pieces, &mut weights, &mut counts, 1, 1, &TILE, colours, origin, Offset(0, 0), 1);
+    assert_eq!((laid, weights), (Ok(()), [4]));
+    (pieces, weights, counts)
+}
+
 /// The same calls of the port: it keeps the text's copy, so a board put together with it goes the same way.
 #[cfg(feature = "port")]
 #[test]
 fn the_port_does_the_same() {
-    use calls::{Cell, Offset, Pads, World};
+    use calls::{Cell, Offset, World};
     let colours = COLOURS as u32;
-    let (mut pieces, mut weights, mut counts) = ([0], [0], [0]);
-    assert_eq!(port::fresh(&mut pieces, &mut weights, &mut counts, 1, 1, 1), Ok(()));
+    let (pieces, weights, counts) = panel();
     let (origin, corner) = (World(0, 0), World(-1, -1));
     let lay = port::lay;
-    assert_eq!(lay(&mut pieces, &mut weights, &mut counts, 1, 1, &TILE, colours, origin, Offset(0, 0), 1), Ok(()));
-    assert_eq!(weights, [4]);
 
-    let pads = Pads { left: 1, right: 1, top: 1, bottom: 1 };
-    let offset = Offset(1, 1);
+    let (pads, offset) = (PADS, Offset(1, 1));
     let (mut wide_pieces, mut wide_weights, mut wide_counts) = ([0; 9], [0; 9], [0; 9]);
     for (plane, wide) in [(pieces, &mut wide_pieces), (weights, &mut wide_weights), (counts, &mut wide_counts)] {
         assert_eq!(port::extend_array_2d_u32(&plane, 1, 1, pads, wide), Ok(()));
     }
-    assert_eq!((wide_pieces, wide_weights), ([1, 1, 1, 1, 2, 1, 1, 1, 1], WIDENED));
+    assert_eq!((wide_pieces, wide_weights), (MIDDLE, WIDENED));
 
     // the weights step alone, and the lift
     let mut lowered = wide_weights;
@@ -123,4 +136,43 @@ fn the_port_does_the_same() {
     assert_eq!(lay(pieces, weights, counts, 3, 3, &TILE, colours, corner, offset, 1), Ok(()));
     assert_eq!((*pieces, *weights), (CORNER, LAID_FRESH));
     assert_eq!(port::scan(pieces, weights, 3, 3, &TILE, colours), Ok(Some(Cell(0, 2))));
+}
+
+/// The same panel, lift, lay and scan, but the panel is widened by the port's widening: after each call the planes are those
+/// of a fresh board with the same piece, and the dead end is found.
+#[cfg(feature = "port")]
+#[test]
+fn the_other_way_round() {
+    use calls::{Cell, Offset, World};
+    let colours = COLOURS as u32;
+    let (origin, corner, offset) = (World(0, 0), World(-1, -1), Offset(1, 1));
+    let fresh = |piece: Option<World>| {
+        let (mut pieces, mut weights, mut counts) = ([0; 9], [0; 9], [0; 9]);
+        assert_eq!(port::fresh(&mut pieces, &mut weights, &mut counts, 3, 3, 1), Ok(()));
+        let mut lay = |at| port::lay(&mut pieces, &mut weights, &mut counts, 3, 3, &TILE, colours, at, offset, 1);
+        assert_eq!(piece.map_or(Ok(()), &mut lay), Ok(()));
+        (pieces, weights, counts)
+    };
+
+    let (old_pieces, old_weights, old_counts) = panel();
+    let (mut pieces, mut weights, mut counts, mut told) = ([0; 9], [0; 9], [0; 9], [0; 2]);
+    let (wide, of) = ((&mut pieces, &mut weights, &mut counts), (&old_pieces, &old_weights, &old_counts));
+    let before = Offset(0, 0);
+    assert_eq!(
+        port::widen(wide.0, wide.1, wide.2, of.0, of.1, of.2, 1, 1, PADS, &TILE, colours, before, &mut told),
+        Ok(())
+    );
+    assert_eq!(told, [1, 1]);
+    assert_eq!((pieces, weights), (MIDDLE, [4; 9]));
+    assert_eq!((pieces, weights, counts), fresh(Some(origin)));
+
+    assert_eq!(port::lift(&mut pieces, &mut weights, &mut counts, 3, 3, &TILE, colours, origin, offset), Ok(()));
+    assert_eq!((pieces, weights), (BARE, [1; 9]));
+    assert_eq!((pieces, weights, counts), fresh(None));
+
+    assert_eq!(port::lay(&mut pieces, &mut weights, &mut counts, 3, 3, &TILE, colours, corner, offset, 1), Ok(()));
+    assert_eq!((pieces, weights), (CORNER, LAID_FRESH));
+    assert_eq!((pieces, weights, counts), fresh(Some(corner)));
+    assert_eq!(port::fitting_colours(&pieces, 3, 3, &TILE, colours, World(-1, 1), offset), Ok(0));
+    assert_eq!(port::scan(&pieces, &weights, 3, 3, &TILE, colours), Ok(Some(Cell(0, 2))));
 }

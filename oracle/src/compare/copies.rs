@@ -86,7 +86,7 @@ impl Copied for f64 {
 }
 
 /// Two pads on a side of the grid, so that it stays a board's side.
-fn pads_along(random: &mut Random, side: usize) -> (usize, usize) {
+pub fn pads_along(random: &mut Random, side: usize) -> (usize, usize) {
     let most = 64 - side;
     let likely = if random.percent(70) { 4 } else { 64 };
     let before = random.below(most.min(likely) + 1);
@@ -162,14 +162,8 @@ impl<T: Copied> Input for CopyInput<T> {
                 all.push(Self { plane, rows, cols, ..self.clone() }.fitted());
             }
         }
-        let Pads { left, right, top, bottom } = self.pads;
-        let pads = [
-            inputs::fewer(left).into_iter().map(|left| Pads { left, ..self.pads }).collect::<Vec<_>>(),
-            inputs::fewer(right).into_iter().map(|right| Pads { right, ..self.pads }).collect(),
-            inputs::fewer(top).into_iter().map(|top| Pads { top, ..self.pads }).collect(),
-            inputs::fewer(bottom).into_iter().map(|bottom| Pads { bottom, ..self.pads }).collect(),
-        ];
-        all.extend(pads.into_iter().flatten().map(|pads| Self { pads, ..self.clone() }.fitted()));
+        let pads = inputs::smaller_pads(self.pads).into_iter();
+        all.extend(pads.map(|pads| Self { pads, ..self.clone() }.fitted()));
         all.extend(inputs::plainer(&self.plane, T::PLAIN).into_iter().map(|plane| Self { plane, ..self.clone() }));
         all
     }

@@ -1,5 +1,7 @@
-//! Runs of lay and lift from a fresh board, refused calls among them. After every call the board is held against the
-//! text's own steps, and against a board of the port's that is laid afresh with the standing pieces only, in another order.
+//! Runs of lay, lift and widen from a fresh board, refused calls among them. After every call the board is held against the
+//! text's own steps, and against a board of the port's, of the size and offset that it then has, that is laid afresh with
+//! the standing pieces only, in another order. The text cannot widen: there the board it goes on with is one of the new
+//! size and offset, on which it has laid the standing pieces at their wall coordinates.
 
 use super::board::board_planes;
 use super::{Input, Shows};
@@ -8,7 +10,8 @@ use crate::inputs::{self, TileList};
 use crate::outcome::{Lent, Outcome, Plane, Value};
 use crate::random::Random;
 use crate::{refusals, side};
-use oracle::steps::Board;
+use oracle::steps::{Board, Job};
+use std::cell::RefMut;
 
 #[derive(Clone, Copy, Debug, PartialEq)]
 enum Call {
@@ -16,15 +19,63 @@ enum Call {
     Lift(World),
     /// a lay under another colour count, to be refused
     LayUnder(World, u32, u32),
-    /// all pieces at most one cell from a cell: lifts one by one, and for the text its whole resolution at once
-    Clear(Cell),
+    /// all pieces at most one cell from a place: lifts one by one, and for the text its whole resolution at once
+    Clear(World),
+    Widen(Pads),
+    /// a widening into a plane of counts that lacks a cell, to be refused
+    WidenShort(Pads),
+}
+
+/// A board's sides, and the offset that puts it on the wall.
+#[derive(Clone, Copy, Debug)]
+struct Frame {
+    rows: usize,
+    cols: usize,
+    offset: Offset,
+}
+
+impl Frame {
+    fn sides(self) -> [usize; 2] {
+        [self.rows, self.cols]
+    }
+
+    fn cell(self, world: World) -> Option<Cell> {
+        refusals::cell_of(self.rows, self.cols, world, self.offset)
+    }
+
+    /// The places at most one cell from this one, if it is on the board.
+    fn round(self, world: World) -> Vec<World> {
+        let Some(cell) = self.cell(world) else { return Vec::new() };
+        let rows = cell.0.saturating_sub(1)..(cell.0 + 2).min(self.rows);
+        let cols = cell.1.saturating_sub(1)..(cell.1 + 2).min(self.cols);
+        let place = |row: usize, col: usize| inputs::world_of(Cell(row, col), self.offset);
+        rows.flat_map(|row| cols.clone().map(move |col| place(row, col))).collect()
+    }
+
+    /// The standing pieces by their places.
+    fn standing(self, pieces: &[u32]) -> Vec<(World, u32)> {
+        let laid = (0..pieces.len()).filter(|&at| pieces[at] > 1);
+        laid.map(|at| (inputs::world_of(Cell(at / self.cols, at % self.cols), self.offset), pieces[at] - 1)).collect()
+    }
+
+    /// With an offset that the caller knows.
+    fn widened(self, pads: Pads, offset: Offset) -> Self {
+        let (rows, cols) = refusals::padded(self.rows, self.cols, pads);
+        assert!(rows <= 64 && cols <= 64, "a side past 64 was accepted");
+        Self { rows, cols, offset }
+    }
+
+    /// The lengths of the new planes that are lent.
+    fn lent(self, pads: Pads, short: bool) -> [usize; 3] {
+        let (rows, cols) = refusals::padded(self.rows, self.cols, pads);
+        let cells = rows.min(65) * cols.min(65);
+        [cells, cells, cells - usize::from(short)]
+    }
 }
 
 #[derive(Clone, Debug)]
 pub struct SequenceInput {
-    rows: usize,
-    cols: usize,
-    offset: Offset,
+    frame: Frame,
     tiles: TileList,
     calls: Vec<Call>,
 }
@@ -32,121 +83,317 @@ pub struct SequenceInput {
 /// Boards with more pieces than this are laid afresh after the last call only.
 const FEW_PIECES: usize = 30;
 
-/// The tiles and the three planes of a board of the port's, each with its guard words.
-struct Lending {
-    tiles: Lent<u8>,
-    pieces: Lent<u32>,
-    weights: Lent<u32>,
-    counts: Lent<u32>,
-}
-
-impl SequenceInput {
-    /// The cells that `Clear` clears.
-    fn round(&self, cell: Cell) -> Vec<Cell> {
-        let rows = cell.0.saturating_sub(1)..(cell.0 + 2).min(self.rows);
-        let cols = cell.1.saturating_sub(1)..(cell.1 + 2).min(self.cols);
-        rows.flat_map(|row| cols.clone().map(move |col| Cell(row, col))).collect()
-    }
-
-    fn fresh(&self) -> Lending {
-        let garbage = vec![0xdead_beef; self.rows * self.cols];
-        let mut board = Lending {
-            tiles: Lent::new(self.tiles.bytes()),
-            pieces: Lent::new(&garbage),
-            weights: Lent::new(&garbage),
-            counts: Lent::new(&garbage),
-        };
-        let answer = side::fresh(
-            board.pieces.cells_mut(),
-            board.weights.cells_mut(),
-            board.counts.cells_mut(),
-            self.rows,
-            self.cols,
-            self.tiles.number(),
-        );
-        assert_eq!(answer, Ok(()), "fresh was refused");
-        board
-    }
-
-    fn lay(&self, board: &mut Lending, count: u32, world: World, colour: u32) -> Answer<()> {
-        side::lay(
-            board.pieces.cells_mut(),
-            board.weights.cells_mut(),
-            board.counts.cells_mut(),
-            self.rows,
-            self.cols,
-            board.tiles.cells(),
-            count,
-            world,
-            self.offset,
-            colour,
-        )
-    }
-
-    fn lift(&self, board: &mut Lending, world: World) -> Answer<()> {
-        side::lift(
-            board.pieces.cells_mut(),
-            board.weights.cells_mut(),
-            board.counts.cells_mut(),
-            self.rows,
-            self.cols,
-            board.tiles.cells(),
-            self.tiles.count(),
-            world,
-            self.offset,
-        )
-    }
-
-    /// A board with the standing pieces only, laid in an order of leaps.
-    fn afresh(&self, pieces: &[u32]) -> Lending {
-        let mut board = self.fresh();
-        let mut standing: Vec<usize> = (0..pieces.len()).filter(|&at| pieces[at] > 1).collect();
-        standing.sort_by_key(|&at| at.wrapping_mul(0x9e37_79b9) % 1009);
-        for at in standing {
-            let world = inputs::world_of(Cell(at / self.cols, at % self.cols), self.offset);
-            let answer = self.lay(&mut board, self.tiles.count(), world, pieces[at] - 1);
-            assert_eq!(answer, Ok(()), "a standing piece was refused");
-        }
-        board
-    }
-
-    fn few(&self, pieces: &[u32], last: bool) -> bool {
-        last || pieces.iter().filter(|&&stored| stored > 1).count() <= FEW_PIECES
-    }
-
-    /// What the table says of a lay or a lift on the board as it stands.
-    fn refused(&self, board: &Board, count: u32, world: World, colour: Option<u32>) -> Option<Refusal> {
-        refusals::lay_or_lift(
-            &board.pieces(),
-            &board.weights(),
-            &board.counts(),
-            self.rows,
-            self.cols,
-            self.tiles.bytes(),
-            count,
-            world,
-            self.offset,
-            colour,
-        )
-    }
-}
-
-fn lent_planes(board: &Lending) -> Vec<Plane> {
-    [&board.pieces, &board.weights, &board.counts].map(|lent| Plane::Words(lent.cells().to_vec())).to_vec()
-}
-
-fn lent_guarded(board: &mut Lending) -> bool {
-    board.tiles.untouched() && board.pieces.guarded() && board.weights.guarded() && board.counts.guarded()
+fn few(pieces: &[u32], last: bool) -> bool {
+    last || pieces.iter().filter(|&&stored| stored > 1).count() <= FEW_PIECES
 }
 
 fn said(answer: Answer<()>) -> Value {
     Value::Whole(answer.err().map_or(0, i64::from))
 }
 
+/// Of a widening also the offset that is then in force.
+fn said_with(answer: Answer<()>, offset: Offset) -> Vec<Value> {
+    vec![said(answer), Value::Whole(i64::from(offset.0)), Value::Whole(i64::from(offset.1))]
+}
+
+// ---- the port's side
+
+/// A board of the port's: its frame, the tiles and the three planes, each with its guard words.
+struct Lending {
+    frame: Frame,
+    count: u32,
+    tiles: Lent<u8>,
+    pieces: Lent<u32>,
+    weights: Lent<u32>,
+    counts: Lent<u32>,
+    /// the widenings so far wrote nothing that they may not write
+    kept: bool,
+}
+
+const GARBAGE: u32 = 0xdead_beef;
+
+impl Lending {
+    fn fresh(frame: Frame, tiles: &[u8], count: u32) -> Self {
+        let garbage = vec![GARBAGE; frame.rows * frame.cols];
+        let [mut pieces, mut weights, mut counts] = [(); 3].map(|()| Lent::new(&garbage));
+        let [a, b, c] = [&mut pieces, &mut weights, &mut counts].map(Lent::cells_mut);
+        let answer = side::fresh(a, b, c, frame.rows, frame.cols, tiles.len() / 9);
+        assert_eq!(answer, Ok(()), "fresh was refused");
+        Self { frame, count, tiles: Lent::new(tiles), pieces, weights, counts, kept: true }
+    }
+
+    fn lay(&mut self, count: u32, world: World, colour: u32) -> Answer<()> {
+        side::lay(
+            self.pieces.cells_mut(),
+            self.weights.cells_mut(),
+            self.counts.cells_mut(),
+            self.frame.rows,
+            self.frame.cols,
+            self.tiles.cells(),
+            count,
+            world,
+            self.frame.offset,
+            colour,
+        )
+    }
+
+    fn lift(&mut self, world: World) -> Answer<()> {
+        side::lift(
+            self.pieces.cells_mut(),
+            self.weights.cells_mut(),
+            self.counts.cells_mut(),
+            self.frame.rows,
+            self.frame.cols,
+            self.tiles.cells(),
+            self.count,
+            world,
+            self.frame.offset,
+        )
+    }
+
+    fn clear(&mut self, world: World) {
+        for place in self.frame.round(world) {
+            let Cell(row, col) = self.frame.cell(place).expect("a place on the board");
+            if self.pieces.cells()[row * self.frame.cols + col] > 1 {
+                assert_eq!(self.lift(place), Ok(()), "a standing piece was not lifted");
+            }
+        }
+    }
+
+    /// The old planes are lent anew, so that they can be held against what they were.
+    fn widen(&mut self, pads: Pads, short: bool) -> Vec<Value> {
+        let Frame { rows, cols, offset } = self.frame;
+        let mut old = [&self.pieces, &self.weights, &self.counts].map(|plane| Lent::new(plane.cells()));
+        let mut wide = self.frame.lent(pads, short).map(|len| Lent::new(&vec![GARBAGE; len]));
+        let mut told = Lent::new(&[7, -7]);
+        let [wide_pieces, wide_weights, wide_counts] = wide.each_mut().map(Lent::cells_mut);
+        let [pieces, weights, counts] = old.each_ref().map(Lent::cells);
+        let answer = side::widen(
+            wide_pieces,
+            wide_weights,
+            wide_counts,
+            pieces,
+            weights,
+            counts,
+            rows,
+            cols,
+            pads,
+            self.tiles.cells(),
+            self.count,
+            offset,
+            told.cells_mut(),
+        );
+        self.kept &= old.iter_mut().all(Lent::untouched);
+        if answer.is_ok() {
+            self.kept &= told.guarded() && self.guarded();
+            [self.pieces, self.weights, self.counts] = wide;
+            self.frame = self.frame.widened(pads, Offset(told.cells()[0], told.cells()[1]));
+        } else {
+            self.kept &= told.untouched() && wide.iter_mut().all(Lent::untouched);
+        }
+        said_with(answer, self.frame.offset)
+    }
+
+    fn act(&mut self, call: Call) -> Vec<Value> {
+        match call {
+            Call::Lay(world, colour) => vec![said(self.lay(self.count, world, colour))],
+            Call::LayUnder(world, colour, count) => vec![said(self.lay(count, world, colour))],
+            Call::Lift(world) => vec![said(self.lift(world))],
+            Call::Clear(world) => {
+                self.clear(world);
+                Vec::new()
+            }
+            Call::Widen(pads) => self.widen(pads, false),
+            Call::WidenShort(pads) => self.widen(pads, true),
+        }
+    }
+
+    /// A board of this frame with the standing pieces only, laid in an order of leaps.
+    fn afresh(&self) -> Self {
+        let mut board = Self::fresh(self.frame, self.tiles.cells(), self.count);
+        let mut standing = self.frame.standing(self.pieces.cells());
+        let cell = |world: World| self.frame.cell(world).map_or(0, |cell| cell.0 * self.frame.cols + cell.1);
+        standing.sort_by_key(|&(world, _)| cell(world).wrapping_mul(0x9e37_79b9) % 1009);
+        for (world, colour) in standing {
+            assert_eq!(board.lay(self.count, world, colour), Ok(()), "a standing piece was refused");
+        }
+        board
+    }
+
+    fn planes(&self) -> Vec<Plane> {
+        [&self.pieces, &self.weights, &self.counts].map(|lent| Plane::Words(lent.cells().to_vec())).to_vec()
+    }
+
+    fn guarded(&mut self) -> bool {
+        self.pieces.guarded() && self.weights.guarded() && self.counts.guarded()
+    }
+
+    fn intact(&mut self) -> bool {
+        self.tiles.untouched() && self.guarded() && self.kept
+    }
+}
+
+// ---- the text's side
+
+/// A board of the text's, with its job.
+struct Judge<'a> {
+    frame: Frame,
+    tiles: &'a TileList,
+    job: RefMut<'a, Job>,
+    board: Board,
+}
+
+fn place(world: World) -> [i32; 2] {
+    [world.0, world.1]
+}
+
+impl<'a> Judge<'a> {
+    fn new(frame: Frame, tiles: &'a TileList) -> Self {
+        Self { frame, tiles, job: tiles.job(), board: Board::fresh(frame.sides(), tiles.number()) }
+    }
+
+    fn shift(&self) -> [i32; 2] {
+        [self.frame.offset.0, self.frame.offset.1]
+    }
+
+    /// What the table says of a lay or a lift on the board as it stands.
+    fn refused(&self, count: u32, world: World, colour: Option<u32>) -> Option<Refusal> {
+        let (pieces, weights, counts) = (self.board.pieces(), self.board.weights(), self.board.counts());
+        let Frame { rows, cols, offset } = self.frame;
+        let tiles = self.tiles.bytes();
+        refusals::lay_or_lift(&pieces, &weights, &counts, rows, cols, tiles, count, world, offset, colour)
+    }
+
+    fn lay(&mut self, count: u32, world: World, colour: u32) -> Value {
+        let refused = self.refused(count, world, Some(colour));
+        if refused.is_none() {
+            let shift = self.shift();
+            self.job.lay(&mut self.board, place(world), shift, colour as usize);
+        }
+        said(refused.map_or(Ok(()), Err))
+    }
+
+    fn lift(&mut self, world: World) -> Value {
+        let refused = self.refused(self.tiles.count(), world, None);
+        if refused.is_none() {
+            let shift = self.shift();
+            self.job.lift(&mut self.board, place(world), shift);
+        }
+        said(refused.map_or(Ok(()), Err))
+    }
+
+    fn widen(&mut self, pads: Pads, short: bool) -> Vec<Value> {
+        let (pieces, weights, counts) = (self.board.pieces(), self.board.weights(), self.board.counts());
+        let Frame { rows, cols, offset } = self.frame;
+        let (tiles, count) = (self.tiles.bytes(), self.tiles.count());
+        let lent = self.frame.lent(pads, short);
+        let refused = refusals::widen(lent, &pieces, &weights, &counts, rows, cols, pads, tiles, count, offset);
+        if refused.is_none() {
+            let standing = self.frame.standing(&pieces);
+            self.frame = self.frame.widened(pads, Offset(offset.0 + pads.left as i32, offset.1 + pads.top as i32));
+            self.board = Board::fresh(self.frame.sides(), self.tiles.number());
+            let shift = self.shift();
+            for (world, colour) in standing {
+                self.job.lay(&mut self.board, place(world), shift, colour as usize);
+            }
+        }
+        said_with(refused.map_or(Ok(()), Err), self.frame.offset)
+    }
+
+    fn act(&mut self, call: Call) -> Vec<Value> {
+        match call {
+            Call::Lay(world, colour) => vec![self.lay(self.tiles.count(), world, colour)],
+            Call::LayUnder(world, colour, count) => vec![self.lay(count, world, colour)],
+            Call::Lift(world) => vec![self.lift(world)],
+            Call::Clear(world) => {
+                if let Some(Cell(row, col)) = self.frame.cell(world) {
+                    let shift = self.shift();
+                    self.job.resolve(&mut self.board, [row, col], shift);
+                }
+                Vec::new()
+            }
+            Call::Widen(pads) => self.widen(pads, false),
+            Call::WidenShort(pads) => self.widen(pads, true),
+        }
+    }
+}
+
+// ---- the inputs
+
+/// Mostly few rows and columns; now and then a side of just 64, or one past it.
+fn pads(random: &mut Random, frame: Frame) -> Pads {
+    let mut pad = |side: usize| match random.below(60) {
+        0 => 64 - side,
+        1 => 65 - side,
+        2 => random.pick(&[64, usize::MAX, usize::MAX - side, side.wrapping_neg()]),
+        3..=25 => 0,
+        _ => 1 + random.below(3),
+    };
+    Pads { left: pad(frame.rows), right: pad(frame.rows), top: pad(frame.cols), bottom: pad(frame.cols) }
+}
+
+/// The frame after a widening, if it is accepted.
+fn after(frame: Frame, pads: Pads) -> Option<Frame> {
+    let (rows, cols) = refusals::padded(frame.rows, frame.cols, pads);
+    let fits = rows <= 64 && cols <= 64;
+    let moved = |part: i32, pad: usize| fits.then(|| part + pad as i32).filter(|&part| part <= 1_000_000);
+    Some(Frame { rows, cols, offset: Offset(moved(frame.offset.0, pads.left)?, moved(frame.offset.1, pads.top)?) })
+}
+
+fn one_call(random: &mut Random, frame: Frame, tiles: &TileList, standing: &mut Vec<World>) -> Call {
+    let colour = 1 + random.below(tiles.count() as usize) as u32;
+    let mut place = inputs::world_on(random, frame.rows, frame.cols, frame.offset);
+    // often near a piece, where steps meet
+    if !standing.is_empty() && random.percent(50) {
+        let World(row, col) = random.pick(standing);
+        let near = World(row + random.within(-2, 2), col + random.within(-2, 2));
+        if frame.cell(near).is_some() {
+            place = near;
+        }
+    }
+    match random.below(20) {
+        0..=9 => {
+            standing.push(place);
+            Call::Lay(place, colour)
+        }
+        10..=14 if !standing.is_empty() => {
+            let at = random.below(standing.len());
+            Call::Lift(standing.swap_remove(at))
+        }
+        15 => Call::Lay(place, random.pick(&[0, tiles.count() + 1, u32::MAX])),
+        16 => {
+            let mut bad = place;
+            if random.percent(50) {
+                inputs::spoil_wall(random, &mut bad);
+            } else {
+                inputs::spoil_place(random, frame.rows, frame.cols, &mut bad, frame.offset);
+            }
+            if random.percent(50) { Call::Lay(bad, colour) } else { Call::Lift(bad) }
+        }
+        17 => Call::LayUnder(place, colour, inputs::spoil_count(random)),
+        18 => {
+            let cell = Cell(random.below(frame.rows), random.below(frame.cols));
+            Call::Clear(inputs::world_of(cell, frame.offset))
+        }
+        // often bare
+        _ => Call::Lift(place),
+    }
+}
+
+/// Every run of so many calls of these, from a board at the wall's origin, with the two chequer tiles.
+fn all_runs(sides: (usize, usize), calls: &[Call], number: u32, each: &mut dyn FnMut(SequenceInput)) {
+    let tiles = TileList::new(vec![1, 2, 1, 2, 1, 2, 1, 2, 1, 2, 1, 2, 1, 2, 1, 2, 1, 2], 2);
+    let frame = Frame { rows: sides.0, cols: sides.1, offset: Offset(0, 0) };
+    for run in 0..calls.len().pow(number) {
+        let call = |turn: u32| calls[run / calls.len().pow(turn) % calls.len()];
+        each(SequenceInput { frame, tiles: tiles.clone(), calls: (0..number).map(call).collect() });
+    }
+}
+
 impl Input for SequenceInput {
     type Step = ();
 
-    const STEPS: &'static [(&'static str, u64, ())] = &[("sequences", 100, ())];
+    const STEPS: &'static [(&'static str, u64, ())] = &[("sequences", 150, ())];
 
     fn uses_tiles(_: ()) -> bool {
         true
@@ -157,69 +404,45 @@ impl Input for SequenceInput {
         Shows { answer: true, planes: true, floats: false, refusals: false, lends: true, reads: true }
     }
 
+    /// Two of three have widenings among their calls.
     fn random(_: (), random: &mut Random, tiles: &TileList) -> Self {
         let (mut rows, mut cols) = (inputs::side(random), inputs::side(random));
         if rows * cols > 200 && !random.percent(15) {
             (rows, cols) = (1 + random.below(8), 1 + random.below(8));
         }
-        let offset = inputs::offset(random);
+        let frame = Frame { rows, cols, offset: inputs::offset(random) };
+        let widens = random.pick(&[0, 8, 20]);
+        let (mut now, mut standing) = (frame, Vec::new());
         let mut calls = Vec::new();
-        let mut standing: Vec<World> = Vec::new();
         for _ in 0..1 + random.below(40) {
-            let colour = 1 + random.below(tiles.count() as usize) as u32;
-            let mut place = inputs::world_on(random, rows, cols, offset);
-            // often near a piece, where steps meet
-            if !standing.is_empty() && random.percent(50) {
-                let World(row, col) = random.pick(&standing);
-                let near = World(row + random.within(-2, 2), col + random.within(-2, 2));
-                if refusals::cell_of(rows, cols, near, offset).is_some() {
-                    place = near;
-                }
+            if !random.percent(widens) {
+                calls.push(one_call(random, now, tiles, &mut standing));
+            } else if random.percent(10) {
+                calls.push(Call::WidenShort(pads(random, now)));
+            } else {
+                let pads = pads(random, now);
+                now = after(now, pads).unwrap_or(now);
+                calls.push(Call::Widen(pads));
             }
-            calls.push(match random.below(20) {
-                0..=9 => {
-                    standing.push(place);
-                    Call::Lay(place, colour)
-                }
-                10..=14 if !standing.is_empty() => {
-                    let at = random.below(standing.len());
-                    Call::Lift(standing.swap_remove(at))
-                }
-                15 => Call::Lay(place, random.pick(&[0, tiles.count() + 1, u32::MAX])),
-                16 => {
-                    let mut bad = place;
-                    if random.percent(50) {
-                        inputs::spoil_wall(random, &mut bad);
-                    } else {
-                        inputs::spoil_place(random, rows, cols, &mut bad, offset);
-                    }
-                    if random.percent(50) { Call::Lay(bad, colour) } else { Call::Lift(bad) }
-                }
-                17 => Call::LayUnder(place, colour, inputs::spoil_count(random)),
-                18 => Call::Clear(Cell(random.below(rows), random.below(cols))),
-                // often bare
-                _ => Call::Lift(place),
-            });
         }
-        Self { rows, cols, offset, tiles: tiles.clone(), calls }
+        Self { frame, tiles: tiles.clone(), calls }
     }
 
-    /// Every run of three calls on a 1x3 and on a 3x3 board with the two chequer tiles, where a call is a lay or a lift at
-    /// any cell. The colour laid goes with the cell: 1 and 2 by turns.
+    /// Every run of three calls on a 1x3 and on a 3x3 board, where a call is a lay or a lift at any cell; the colour laid
+    /// goes with the cell: 1 and 2 by turns. And every run of four calls from a single cell, where a call is a lay or a lift
+    /// there or at a place next to its corner, or one of five widenings.
     fn small(_: (), each: &mut dyn FnMut(Self)) {
-        let tiles = TileList::new(vec![1, 2, 1, 2, 1, 2, 1, 2, 1, 2, 1, 2, 1, 2, 1, 2, 1, 2], 2);
         for (rows, cols) in [(1, 3), (3, 3)] {
-            let cells = rows * cols;
-            let call = |kind: usize| {
-                let world = World((kind / 2 / cols) as i32, (kind / 2 % cols) as i32);
-                if kind.is_multiple_of(2) { Call::Lay(world, 1 + (kind as u32 / 2) % 2) } else { Call::Lift(world) }
-            };
-            for number in 0..(2 * cells).pow(3) {
-                let kinds = [number % (2 * cells), number / (2 * cells) % (2 * cells), number / (2 * cells).pow(2)];
-                let calls = kinds.map(call).to_vec();
-                each(Self { rows, cols, offset: Offset(0, 0), tiles: tiles.clone(), calls });
-            }
+            let places = (0..rows * cols).map(|at| (World((at / cols) as i32, (at % cols) as i32), 1 + at as u32 % 2));
+            let calls: Vec<Call> =
+                places.flat_map(|(world, colour)| [Call::Lay(world, colour), Call::Lift(world)]).collect();
+            all_runs((rows, cols), &calls, 3, each);
         }
+        let places = [(World(0, 0), 1), (World(-1, 1), 2)];
+        let pads = [[1, 1, 1, 1], [1, 0, 0, 0], [0, 2, 0, 0], [0, 0, 2, 0], [0, 0, 0, 1]];
+        let widenings = pads.map(|[left, right, top, bottom]| Call::Widen(Pads { left, right, top, bottom }));
+        let pieces = places.into_iter().flat_map(|(world, colour)| [Call::Lay(world, colour), Call::Lift(world)]);
+        all_runs((1, 1), &pieces.chain(widenings).collect::<Vec<_>>(), 4, each);
     }
 
     /// Refused calls are among the calls already.
@@ -243,13 +466,23 @@ impl Input for SequenceInput {
             fewer.remove(at);
             all.push(Self { calls: fewer, ..self.clone() });
         }
-        for rows in inputs::fewer(self.rows).into_iter().filter(|&rows| rows > 0) {
-            all.push(Self { rows, ..self.clone() });
+        for rows in inputs::fewer(self.frame.rows).into_iter().filter(|&rows| rows > 0) {
+            all.push(Self { frame: Frame { rows, ..self.frame }, ..self.clone() });
         }
-        for cols in inputs::fewer(self.cols).into_iter().filter(|&cols| cols > 0) {
-            all.push(Self { cols, ..self.clone() });
+        for cols in inputs::fewer(self.frame.cols).into_iter().filter(|&cols| cols > 0) {
+            all.push(Self { frame: Frame { cols, ..self.frame }, ..self.clone() });
         }
         all.extend(self.tiles.smaller().into_iter().map(|tiles| Self { tiles, ..self.clone() }));
+        for (at, &call) in calls.iter().enumerate() {
+            if let Call::Widen(pads) = call {
+                let with = |pads: Pads| {
+                    let mut calls = calls.clone();
+                    calls[at] = Call::Widen(pads);
+                    Self { calls, ..self.clone() }
+                };
+                all.extend(inputs::smaller_pads(pads).into_iter().map(with));
+            }
+        }
         all
     }
 
@@ -259,41 +492,13 @@ impl Input for SequenceInput {
 
     /// The answers of all calls; the board after each, and again as the board laid afresh must be.
     fn expected(&self) -> Outcome {
-        let mut job = self.tiles.job();
-        let mut board = Board::fresh([self.rows, self.cols], self.tiles.number());
-        let shift = [self.offset.0, self.offset.1];
-        let place = |world: World| [world.0, world.1];
+        let mut judge = Judge::new(self.frame, &self.tiles);
         let (mut answers, mut planes) = (Vec::new(), Vec::new());
-        let count = self.tiles.count();
         for (number, &call) in self.calls.iter().enumerate() {
-            match call {
-                Call::Lay(world, colour) => {
-                    let refused = self.refused(&board, count, world, Some(colour));
-                    if refused.is_none() {
-                        job.lay(&mut board, place(world), shift, colour as usize);
-                    }
-                    answers.push(said(refused.map_or(Ok(()), Err)));
-                }
-                Call::Lift(world) => {
-                    let refused = self.refused(&board, count, world, None);
-                    if refused.is_none() {
-                        job.lift(&mut board, place(world), shift);
-                    }
-                    answers.push(said(refused.map_or(Ok(()), Err)));
-                }
-                Call::LayUnder(world, colour, count) => {
-                    let refused = self.refused(&board, count, world, Some(colour));
-                    answers.push(said(Err(refused.expect("a count out of bounds"))));
-                }
-                Call::Clear(cell) => {
-                    if cell.0 < self.rows && cell.1 < self.cols {
-                        job.resolve(&mut board, [cell.0, cell.1], shift);
-                    }
-                }
-            }
-            let after = board_planes(&board);
+            answers.extend(judge.act(call));
+            let after = board_planes(&judge.board);
             planes.extend(after.clone());
-            if self.few(&board.pieces(), number + 1 == self.calls.len()) {
+            if few(&judge.board.pieces(), number + 1 == self.calls.len()) {
                 planes.extend(after);
             }
         }
@@ -301,37 +506,18 @@ impl Input for SequenceInput {
     }
 
     fn observed(&self) -> Outcome {
-        let mut board = self.fresh();
+        let mut board = Lending::fresh(self.frame, self.tiles.bytes(), self.tiles.count());
         let mut intact = true;
         let (mut answers, mut planes) = (Vec::new(), Vec::new());
         for (number, &call) in self.calls.iter().enumerate() {
-            match call {
-                Call::Lay(world, colour) => {
-                    answers.push(said(self.lay(&mut board, self.tiles.count(), world, colour)));
-                }
-                Call::Lift(world) => answers.push(said(self.lift(&mut board, world))),
-                Call::LayUnder(world, colour, count) => {
-                    answers.push(said(self.lay(&mut board, count, world, colour)));
-                }
-                Call::Clear(cell) => {
-                    if cell.0 < self.rows && cell.1 < self.cols {
-                        for Cell(row, col) in self.round(cell) {
-                            if board.pieces.cells()[row * self.cols + col] > 1 {
-                                let answer = self.lift(&mut board, inputs::world_of(Cell(row, col), self.offset));
-                                assert_eq!(answer, Ok(()), "a standing piece was not lifted");
-                            }
-                        }
-                    }
-                }
-            }
-            planes.extend(lent_planes(&board));
-            let pieces = board.pieces.cells().to_vec();
-            if self.few(&pieces, number + 1 == self.calls.len()) {
-                let mut afresh = self.afresh(&pieces);
-                planes.extend(lent_planes(&afresh));
-                intact &= lent_guarded(&mut afresh);
+            answers.extend(board.act(call));
+            planes.extend(board.planes());
+            if few(board.pieces.cells(), number + 1 == self.calls.len()) {
+                let mut afresh = board.afresh();
+                planes.extend(afresh.planes());
+                intact &= afresh.intact();
             }
         }
-        Outcome { answer: Ok(answers), planes, intact: intact && lent_guarded(&mut board) }
+        Outcome { answer: Ok(answers), planes, intact: intact && board.intact() }
     }
 }

@@ -375,6 +375,17 @@ impl Job {
         self.recount(board, world, offset);
     }
 
+    /// A board with these pieces alone: the text lays each, weights and piece, and then counts every region anew.
+    pub fn afresh(&mut self, standing: &[(Place, usize)], sides: Sides, offset: Place) -> Board {
+        let mut board = Board::fresh(sides, self.tiles());
+        for &(world, colour) in standing {
+            update_grid_state(&mut board.grid, colour, world, offset, &mut None, 0);
+        }
+        self.want_board(&board);
+        reach_recount_feasibility(&board.grid, &mut board.layer, &self.step, &(0..sides[0]), &(0..sides[1]));
+        board
+    }
+
     /// The steps of the text's resolution for one piece: the piece back, weights down, recount.
     pub fn lift(&mut self, board: &mut Board, world: Place, offset: Place) {
         let stored = board.grid.locked_tiles.get_mut(index(world, offset)).unwrap();
