@@ -1,5 +1,6 @@
-/* A desk in miniature: a 3x4 board, the two chequer tiles, a piece laid, colours listed, the piece lifted. It checks every answer, and
- * compares the planes after the lift with those before the lay. */
+/* A desk in miniature: a 3x4 panel, the two chequer tiles, a piece laid, colours listed, the piece lifted; and the same piece laid, the
+ * panel widened, the piece lifted. It checks every answer, and compares the planes after each lift with those of a panel on which no
+ * piece ever lay. */
 #include "desk.h"
 
 #include <inttypes.h>
@@ -7,41 +8,16 @@
 #include <stdlib.h>
 #include <string.h>
 
-enum { ROWS = 3, COLS = 4, CELLS = ROWS * COLS, COLOURS = 2, TILES = 2 };
+enum { ROOM = 24, COLOURS = 2, TILES = 2 };
 
+/* A panel and its plan: the size and the offset, which a widening changes, and the three planes. */
 struct plan {
-    uint32_t pieces[CELLS];
-    uint32_t weights[CELLS];
-    uint32_t counts[CELLS];
+    size_t rows, cols;
+    int32_t down, across;
+    uint32_t pieces[ROOM], weights[ROOM], counts[ROOM];
 };
 
 static const uint8_t tiles[TILES * 9] = {1, 2, 1, 2, 1, 2, 1, 2, 1, 2, 1, 2, 1, 2, 1, 2, 1, 2};
-
-/* The wall's origin is the cell in row 1, column 1. */
-static const int32_t down = 1, across = 1;
-
-static struct plan bare(void)
-{
-    struct plan plan;
-    for (size_t k = 0; k < CELLS; k++) {
-        plan.pieces[k] = 1;
-        plan.weights[k] = 1;
-        plan.counts[k] = TILES;
-    }
-    return plan;
-}
-
-static uint32_t lay(struct plan *plan, int32_t row, int32_t col, uint32_t colour)
-{
-    return desk_lay(plan->pieces, CELLS, plan->weights, CELLS, plan->counts, CELLS, ROWS, COLS, tiles, sizeof tiles, COLOURS, row, col, down,
-                    across, colour);
-}
-
-static uint32_t lift(struct plan *plan, int32_t row, int32_t col)
-{
-    return desk_lift(plan->pieces, CELLS, plan->weights, CELLS, plan->counts, CELLS, ROWS, COLS, tiles, sizeof tiles, COLOURS, row, col,
-                     down, across);
-}
 
 static void need(const char *what, uint32_t got, uint32_t expected)
 {
@@ -51,10 +27,58 @@ static void need(const char *what, uint32_t got, uint32_t expected)
     }
 }
 
+static size_t cells(const struct plan *plan)
+{
+    return plan->rows * plan->cols;
+}
+
+/* The wall's origin is the cell in row down, column across. */
+static struct plan bare(size_t rows, size_t cols, int32_t down, int32_t across)
+{
+    struct plan plan = {.rows = rows, .cols = cols, .down = down, .across = across};
+    for (size_t k = 0; k < rows * cols; k++) {
+        plan.pieces[k] = 1;
+        plan.weights[k] = 1;
+        plan.counts[k] = TILES;
+    }
+    return plan;
+}
+
+static uint32_t lay(struct plan *plan, int32_t row, int32_t col, uint32_t colour)
+{
+    size_t n = cells(plan);
+    return desk_lay(plan->pieces, n, plan->weights, n, plan->counts, n, plan->rows, plan->cols, tiles, sizeof tiles, COLOURS, row, col,
+                    plan->down, plan->across, colour);
+}
+
+static uint32_t lift(struct plan *plan, int32_t row, int32_t col)
+{
+    size_t n = cells(plan);
+    return desk_lift(plan->pieces, n, plan->weights, n, plan->counts, n, plan->rows, plan->cols, tiles, sizeof tiles, COLOURS, row, col,
+                     plan->down, plan->across);
+}
+
+/* left and right are rows, top and bottom columns. The new panel has the new size, and the offset that the call gives. */
+static struct plan widen(const struct plan *plan, size_t left, size_t right, size_t top, size_t bottom)
+{
+    struct plan wide = {.rows = left + plan->rows + right, .cols = top + plan->cols + bottom};
+    size_t n = cells(plan), m = cells(&wide);
+    int32_t offset[2];
+    need("widen",
+         desk_widen(wide.pieces, m, wide.weights, m, wide.counts, m, plan->pieces, n, plan->weights, n, plan->counts, n, plan->rows, plan->cols,
+                    left, right, top, bottom, tiles, sizeof tiles, COLOURS, plan->down, plan->across, offset, 2),
+         DESK_DONE);
+    wide.down = offset[0];
+    wide.across = offset[1];
+    return wide;
+}
+
 static void list(const struct plan *plan, int32_t row, int32_t col)
 {
     uint64_t found = 0;
-    need("list", desk_fitting_colours(plan->pieces, CELLS, ROWS, COLS, tiles, sizeof tiles, COLOURS, row, col, down, across, &found, 1),
+    need("list",
+         desk_fitting_colours(plan->pieces, cells(plan), plan->rows, plan->cols, tiles, sizeof tiles, COLOURS, row, col, plan->down,
+                              plan->across, &found, 1),
          DESK_DONE);
     printf("at %" PRId32 " %" PRId32 " fit:", row, col);
     for (unsigned colour = 1; colour <= COLOURS; colour++)
@@ -63,24 +87,24 @@ static void list(const struct plan *plan, int32_t row, int32_t col)
     puts("");
 }
 
-static void show(const char *name, const uint32_t *plane)
+static void show(const char *name, const struct plan *plan, const uint32_t *plane)
 {
     puts(name);
-    for (size_t k = 0; k < CELLS; k++)
-        printf("%" PRIu32 "%c", plane[k], (k + 1) % COLS ? ' ' : '\n');
+    for (size_t k = 0; k < cells(plan); k++)
+        printf("%" PRIu32 "%c", plane[k], (k + 1) % plan->cols ? ' ' : '\n');
 }
 
 int main(void)
 {
-    struct plan plan = bare();
+    struct plan plan = bare(3, 4, 1, 1);
     const struct plan before = plan;
 
     list(&plan, 0, 1);
     need("lay", lay(&plan, 0, 0, 1), DESK_DONE);
     puts("laid colour 1 at 0 0");
     list(&plan, 0, 1);
-    show("weights", plan.weights);
-    show("counts", plan.counts);
+    show("weights", &plan, plan.weights);
+    show("counts", &plan, plan.counts);
 
     const struct plan laid = plan;
     uint32_t answer = lay(&plan, 0, 0, 2);
@@ -92,7 +116,15 @@ int main(void)
     need("memory after the lift", memcmp(&plan, &before, sizeof plan) != 0, 0);
     puts("lifted: pieces, weights and counts as before the lay");
 
-    answer = desk_lift(NULL, 0, NULL, 0, NULL, 0, ROWS, COLS, NULL, 0, COLOURS, 0, 0, down, across);
+    struct plan wide = widen(&laid, 1, 0, 0, 2);
+    printf("widened with the piece on it: %zu rows, %zu columns, offset %" PRId32 " %" PRId32 "\n", wide.rows, wide.cols, wide.down, wide.across);
+    show("weights", &wide, wide.weights);
+    need("lift after the widening", lift(&wide, 0, 0), DESK_DONE);
+    const struct plan never = bare(4, 6, 2, 1);
+    need("memory after that lift", memcmp(&wide, &never, sizeof wide) != 0, 0);
+    puts("lifted: a widened panel on which no piece ever lay");
+
+    answer = desk_lift(NULL, 0, NULL, 0, NULL, 0, 3, 4, NULL, 0, COLOURS, 0, 0, 1, 1);
     need("no planes", answer, DESK_LENGTH);
     printf("no planes at all: refused %" PRIu32 "\n", answer);
     return 0;

@@ -1,4 +1,4 @@
-/* The desk's functions: fitting colours, lay and lift, for a C program.
+/* The desk's functions: fitting colours, lay, lift and widening, for a C program.
  *
  * Build: `rt staticlib desk` proves the functions and writes target/staticlib/libdesk.a; link it, no other library is needed. It is for
  * x86-64 (System V calls, Linux) alone. The functions hold no state, allocate nothing, print nothing, and always return.
@@ -12,17 +12,18 @@
  *   counts        how many tiles of the list fit the 3x3 region whose top left cell this is; where that region passes the edge, the number
  *                 of all tiles. A tile that stands twice in the list counts twice. The planner's scores, which are not in this library, are
  *                 made of it. Start: the number of tiles everywhere (tiles_len / 9).
- * A plan starts with pieces all 1, weights all 1 and counts as said. From then on lay and lift keep the three as the pieces say them. A
- * program that changes a plane by hand, or names other tiles or another size from one call to the next, gives that up, and the calls need
- * not notice; with another offset the same place is another cell.
+ * A plan starts with pieces all 1, weights all 1 and counts as said. From then on lay, lift and widening keep the three as the pieces say
+ * them. A program that changes a plane by hand, or names other tiles or another size from one call to the next, gives that up, and the calls
+ * need not notice; with another offset the same place is another cell. Only a widening gives a new size and a new offset, and the calls
+ * after it name these.
  *
- * What all three functions take
+ * What all functions take
  *   rows, cols    the sides of the board, 1 to 64 each. Each plane has exactly rows * cols entries, and its _len says so.
  *   tiles         nine bytes a tile, row by row: a colour, or 0 for unknown. 1 to 7,200 tiles; tiles_len is in bytes. A 0 equals no piece:
  *                 a tile fits only where its 0 cells are bare, and a 0 lists no colour.
  *   count         the number of colours, 1 to 30. It may differ from call to call, but a count below a colour that stands in pieces or
  *                 tiles is refused with CELL.
- *   row, col      the place, in wall coordinates, counted from the job's origin, -1,000,000 to 1,000,000 each.
+ *   row, col      the place, in wall coordinates, counted from the job's origin, -1,000,000 to 1,000,000 each (not desk_widen).
  *   down, across  the offset, -999,937 to 1,000,000 each: the cell is (row + down, col + across). With 0 and 0
  *                 a place names its cell directly.
  * A slice is a pointer and its number of ELEMENTS. Every value of every argument is answered, by 0 or by a refusal's number; NULL with
@@ -30,7 +31,7 @@
  * says and be aligned as C aligns its type (4 bytes for uint32_t, 8 for uint64_t, any for uint8_t; nothing beyond that), and a slice that is
  * changed must not overlap another one.
  *
- * What all three give back: 0, or the lowest refusal number that holds (5 and 10 belong to functions that are not here). A refused call
+ * What all give back: 0, or the lowest refusal number that holds (5 and 10 belong to functions that are not here). A refused call
  * changes no memory at all.
  */
 #ifndef DESK_H
@@ -45,11 +46,11 @@ extern "C" {
 
 enum desk_refusal {
     DESK_DONE = 0,
-    DESK_SHAPE = 1,  /* a side of the board is out of bounds */
-    DESK_LENGTH = 2, /* a plane does not have rows * cols entries; the tiles are not 1 to 7,200 whole ones */
+    DESK_SHAPE = 1,  /* a side of the board, or one that the pads make, is out of bounds */
+    DESK_LENGTH = 2, /* a plane does not have as many entries as its board has cells; the tiles are not 1 to 7,200 whole ones */
     DESK_COUNT = 3,  /* count is out of bounds */
     DESK_CELL = 4,   /* a tile cell above count; a piece 0 or above count + 1; a weight above 4,000,000,000; an entry of counts above the number of tiles */
-    DESK_PLACE = 6,  /* a coordinate or the offset is out of bounds, or the cell is off the board */
+    DESK_PLACE = 6,  /* a coordinate, the offset or the widened panel's offset is out of bounds, or the cell is off the board */
     DESK_TYPE = 7,   /* the colour to lay is 0 or above count */
     DESK_TAKEN = 8,  /* lay where a piece stands */
     DESK_BARE = 9    /* lift where none stands */
@@ -73,13 +74,29 @@ uint32_t desk_lay(uint32_t *pieces, size_t pieces_len, uint32_t *weights, size_t
                   size_t rows, size_t cols, const uint8_t *tiles, size_t tiles_len, uint32_t count, int32_t row, int32_t col, int32_t down,
                   int32_t across, uint32_t colour);
 
-/* Lifts the piece at a place, whatever its colour. If the plan began as above and only lay and lift changed it, the planes are then as if
- * the piece had never lain there (docs/ANSWER.md has the theorem).
+/* Lifts the piece at a place, whatever its colour. If the plan began as above and only lay, lift and widening changed it, the planes are
+ * then as if the piece had never lain there (docs/ANSWER.md has the theorem).
  * Reads all planes and tiles. Stores 1 in the cell, takes from the weights what lay added, stopping at 0, and counts the same regions anew.
  * Refusals: SHAPE, LENGTH, COUNT, CELL, PLACE, BARE. */
 uint32_t desk_lift(uint32_t *pieces, size_t pieces_len, uint32_t *weights, size_t weights_len, uint32_t *counts, size_t counts_len,
                    size_t rows, size_t cols, const uint8_t *tiles, size_t tiles_len, uint32_t count, int32_t row, int32_t col,
                    int32_t down, int32_t across);
+
+/* Widens a panel: its board, rows * cols cells in pieces, weights and counts, goes into three larger planes. left and right are added to
+ * the ROWS, before the first and behind the last; top and bottom to the COLUMNS likewise (desk_widen's pads are named as the planner names
+ * them). The new board has left + rows + right rows and top + cols + bottom columns, at most 64 each; old cell (r, c) becomes cell
+ * (r + left, c + top), and its place on the wall stays what it was. The old planes are only read and must not overlap the larger ones.
+ * Fills widepieces, wideweights and widecounts whole, whatever they held; each has exactly as many entries as the new board has cells. Old
+ * cells keep their pieces and their weights as they are; new cells are bare, and their weights and all counts are what the pieces say.
+ * The new offset, (down + left, across + top), goes into offset: its first entry is that of the rows, the second that of the columns. Lend two
+ * entries; what has no entry is not stored, and further ones are left alone. From then on the panel is the larger planes with the new
+ * size and the new offset: name all of them in the calls that follow. With four pads of 0 it is a copy, its counts worked out.
+ * Refusals: SHAPE, LENGTH, COUNT, CELL (of the old planes and the tiles), PLACE (the offset, or the new one, is out of bounds). */
+uint32_t desk_widen(uint32_t *widepieces, size_t widepieces_len, uint32_t *wideweights, size_t wideweights_len, uint32_t *widecounts,
+                    size_t widecounts_len, const uint32_t *pieces, size_t pieces_len, const uint32_t *weights, size_t weights_len,
+                    const uint32_t *counts, size_t counts_len, size_t rows, size_t cols, size_t left, size_t right, size_t top,
+                    size_t bottom, const uint8_t *tiles, size_t tiles_len, uint32_t count, int32_t down, int32_t across, int32_t *offset,
+                    size_t offset_len);
 
 #ifdef __cplusplus
 }
