@@ -64,6 +64,7 @@ static struct plan widen(const struct plan *plan, size_t left, size_t right, siz
     struct plan wide = {.rows = left + plan->rows + right, .cols = top + plan->cols + bottom};
     size_t n = cells(plan), m = cells(&wide);
     int32_t offset[2];
+    need("room for the larger planes", m <= ROOM, 1);
     need("widen",
          desk_widen(wide.pieces, m, wide.weights, m, wide.counts, m, plan->pieces, n, plan->weights, n, plan->counts, n, plan->rows, plan->cols,
                     left, right, top, bottom, tiles, sizeof tiles, COLOURS, plan->down, plan->across, offset, 2),

@@ -28,7 +28,7 @@
  *                 a place names its cell directly.
  * A slice is a pointer and its number of ELEMENTS. Every value of every argument is answered, by 0 or by a refusal's number; NULL with
  * length 0 is allowed and never dereferenced. What cannot be checked from inside: a pointer must point to as many elements as its length
- * says and be aligned as C aligns its type (4 bytes for uint32_t, 8 for uint64_t, any for uint8_t; nothing beyond that), and a slice that is
+ * says and be aligned as C aligns its type (4 bytes for uint32_t and int32_t, 8 for uint64_t, any for uint8_t; nothing beyond that), and a slice that is
  * changed must not overlap another one.
  *
  * What all give back: 0, or the lowest refusal number that holds (5 and 10 belong to functions that are not here). A refused call
@@ -90,7 +90,8 @@ uint32_t desk_lift(uint32_t *pieces, size_t pieces_len, uint32_t *weights, size_
  * cells keep their pieces and their weights as they are; new cells are bare, and their weights and all counts are what the pieces say.
  * The new offset, (down + left, across + top), goes into offset: its first entry is that of the rows, the second that of the columns. Lend two
  * entries; what has no entry is not stored, and further ones are left alone. From then on the panel is the larger planes with the new
- * size and the new offset: name all of them in the calls that follow. With four pads of 0 it is a copy, its counts worked out.
+ * size and the new offset: name all of them in the calls that follow. With four pads of 0 it is a copy, its counts worked out. Every
+ * region of the new board is counted, so on a board of 64 by 64 it takes as long as some 150 lays.
  * Refusals: SHAPE, LENGTH, COUNT, CELL (of the old planes and the tiles), PLACE (the offset, or the new one, is out of bounds). */
 uint32_t desk_widen(uint32_t *widepieces, size_t widepieces_len, uint32_t *wideweights, size_t wideweights_len, uint32_t *widecounts,
                     size_t widecounts_len, const uint32_t *pieces, size_t pieces_len, const uint32_t *weights, size_t weights_len,

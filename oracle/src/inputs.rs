@@ -215,6 +215,7 @@ pub struct TileList {
     bytes: Rc<Vec<u8>>,
     count: u32,
     job: Rc<OnceCell<RefCell<Job>>>,
+    of_all: Rc<OnceCell<RefCell<Job>>>,
     uncached: Rc<OnceCell<RefCell<uncached::steps::Job>>>,
 }
 
@@ -233,7 +234,7 @@ const DEAR_INDEX: usize = 1 << 21;
 
 impl TileList {
     pub fn new(bytes: Vec<u8>, count: u32) -> Self {
-        Self { bytes: Rc::new(bytes), count, job: Rc::default(), uncached: Rc::default() }
+        Self { bytes: Rc::new(bytes), count, job: Rc::default(), of_all: Rc::default(), uncached: Rc::default() }
     }
 
     pub fn bytes(&self) -> &[u8] {
@@ -262,6 +263,12 @@ impl TileList {
     pub fn job(&self) -> RefMut<'_, Job> {
         let make = || RefCell::new(Job::new(&self.bytes, self.count as usize));
         self.job.get_or_init(make).borrow_mut()
+    }
+
+    /// With all 30 colours, whatever the count, and an index on demand.
+    pub fn job_of_all(&self) -> RefMut<'_, Job> {
+        let make = || RefCell::new(Job::on_demand(&self.bytes, 30));
+        self.of_all.get_or_init(make).borrow_mut()
     }
 
     /// Without the cache, and with an index on demand whatever the count.

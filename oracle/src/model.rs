@@ -1,6 +1,6 @@
-//! The rules of document 01, and document 02's widening, in plain Rust, under the names of src/port.rs. It stands in the port's place so that the driver can
-//! be tried with no port at hand, and shows where the text and document 01 part. Nothing is concluded from it about the
-//! port. Refusals are those of src/refusals.rs, so of these it says nothing.
+//! The rules of document 01, and document 02's widening, in plain Rust, under the names of src/port.rs. It stands in the
+//! port's place so that the driver can be tried with no port at hand, and shows where the text and document 01 part.
+//! Nothing is concluded from it about the port. Refusals are those of src/refusals.rs, so of these it says nothing.
 
 use crate::calls::*;
 use crate::refusals;
@@ -46,12 +46,18 @@ pub enum Slip {
     /// left and top
     WidenedPadsExchanged,
     WidenedOffsetStays,
+    /// right for left and bottom for top
+    WidenedOffsetByFarPads,
+    /// its two entries
+    WidenedOffsetExchanged,
     WidenReadsNewPlanes,
     RefusedWidenFills,
+    /// the offset
+    RefusedWidenStores,
 }
 
 impl Slip {
-    pub const ALL: [Slip; 36] = [
+    pub const ALL: [Slip; 39] = [
         Slip::SkipBottomWindows,
         Slip::SkipRightWindows,
         Slip::KeepTopWindows,
@@ -86,8 +92,11 @@ impl Slip {
         Slip::WidenedEdgeCountsStay,
         Slip::WidenedPadsExchanged,
         Slip::WidenedOffsetStays,
+        Slip::WidenedOffsetByFarPads,
+        Slip::WidenedOffsetExchanged,
         Slip::WidenReadsNewPlanes,
         Slip::RefusedWidenFills,
+        Slip::RefusedWidenStores,
     ];
 }
 
@@ -708,6 +717,27 @@ fn count_stays(rows: usize, cols: usize, entry: usize) -> bool {
     slips(Slip::WidenedCountsCopied) || slips(Slip::WidenedEdgeCountsStay) && past
 }
 
+fn store_offset(new_offset: &mut [i32], offset: Offset, pads: Pads) {
+    let by = if slips(Slip::WidenedOffsetByFarPads) { (pads.right, pads.bottom) } else { (pads.left, pads.top) };
+    let by = if slips(Slip::WidenedOffsetStays) { (0, 0) } else { by };
+    // out of bounds only where a refused call stores it
+    let mut moved = [offset.0.wrapping_add(by.0 as i32), offset.1.wrapping_add(by.1 as i32)];
+    if slips(Slip::WidenedOffsetExchanged) {
+        moved.reverse();
+    }
+    new_offset.iter_mut().zip(moved).for_each(|(entry, part)| *entry = part);
+}
+
+/// What a slip writes although the call is refused.
+fn refused_writes(wide_pieces: &mut [u32], new_offset: &mut [i32], offset: Offset, pads: Pads) {
+    if slips(Slip::RefusedWidenFills) {
+        wide_pieces.fill(1);
+    }
+    if slips(Slip::RefusedWidenStores) {
+        store_offset(new_offset, offset, pads);
+    }
+}
+
 /// Document 02's request 1, cell by cell of the new planes.
 pub fn widen(
     wide_pieces: &mut [u32],
@@ -729,8 +759,8 @@ pub fn widen(
     if refused.is_none() && slips(Slip::WidenReadsNewPlanes) && wide_pieces.iter().any(|&old| old > count + 1) {
         refused = Some(CELL);
     }
-    if refused.is_some() && slips(Slip::RefusedWidenFills) {
-        wide_pieces.fill(1);
+    if refused.is_some() {
+        refused_writes(wide_pieces, new_offset, offset, pads);
     }
     unless(refused, || {
         let (new_rows, new_cols) = (pads.left + rows + pads.right, pads.top + cols + pads.bottom);
@@ -747,8 +777,7 @@ pub fn widen(
             let anew = || count_from_pieces(wide_pieces, new_rows, new_cols, tiles, cell(k));
             *count = kept.map_or_else(anew, |entry| counts[entry]);
         }
-        let by = if slips(Slip::WidenedOffsetStays) { (0, 0) } else { (pads.left as i32, pads.top as i32) };
-        new_offset.iter_mut().zip([offset.0 + by.0, offset.1 + by.1]).for_each(|(entry, part)| *entry = part);
+        store_offset(new_offset, offset, pads);
     })
 }
 

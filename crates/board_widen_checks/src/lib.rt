@@ -1,12 +1,12 @@
-// Document 02, request 1: the checks of a widening, in the order of document 01's numbers, and the offset that it leads to. Pads are any
+// Document 02, request 1: the checks of a widening, in the order of document 01's numbers. Pads are any
 // numbers: a sum is taken only where the sides that they make are board sides. Of the larger planes only the lengths are read.
 ghost use mathlib.Core.Path.{_≡_};
 ghost use mathlib.Core.Bool.{true};
 ghost use Prim.Native.Nat.{_≤_};
 ghost use Rattle.base.specs.Refusal.{refusal};
 ghost use Rattle.rules.specs.Bounds.{maxBoardSide};
-ghost use Rattle.rules.specs.Tests.{boardSides, wholeTiles, offsetFits};
-ghost use Rattle.rules.specs.Places.{extensionBy, newRows, newCols};
+ghost use Rattle.rules.specs.Tests.{boardSides, wholeTiles};
+ghost use Rattle.rules.specs.Places.{newRows, newCols};
 ghost use Rattle.rules.specs.Widening.{widenChecks};
 ghost use Rattle.rules.specs.Promises.{before, boardBefore, panel};
 ghost use Rattle.board_widen_checks.specs.Suffix.{offsetChecks, heldChecks, lentChecks};
@@ -17,21 +17,12 @@ use check_sizes::cells_of;
 use check_sizes::whole_tiles;
 use copy_checks::larger_cells;
 use copy_checks::larger_sides;
+use place_extension::offset_after;
 use places::offset_fits;
 use rules::Offset;
 use rules::Pads;
 
-// The offset follows `calculate_extension`: it adds the pads before the first row and the first column.
-pub fn offset_after(offset: Offset, pads: Pads) -> Offset
-    requires { ⌜ (offsetFits offset ≡ true) × (pads .left ≤ maxBoardSide) × (pads .top ≤ maxBoardSide) ⌝ }
-    ensures { λ r. ⌜ r ≡ extensionBy offset pads .offset ⌝ }
-{
-    let left = pads.left;
-    let top = pads.top;
-    Offset(offset.0 + left as i32, offset.1 + top as i32)
-}
-
-// PLACE of the offset, then of the new one; 0 where both pass.
+// PLACE of the offset, then of the new one, which follows `calculate_extension`; 0 where both pass.
 fn offsets_refused(offset: Offset, pads: Pads) -> u8
     requires { ⌜ (pads .left ≤ maxBoardSide) × (pads .top ≤ maxBoardSide) ⌝ }
     ensures { λ r. ⌜ r ≡ refusal (offsetChecks offset pads) ⌝ }

@@ -2,6 +2,7 @@
 ghost use mathlib.Core.Path.{_≡_};
 ghost use Rattle.base.specs.Refusal.{refusal};
 ghost use Rattle.rules.specs.Places.{extensionOf, boxedExtension, extensionChecks};
+pub use pads::offset_after;
 use rules::BoundingBox;
 use rules::ExtensionAnswer;
 use rules::Offset;

@@ -89,6 +89,15 @@ pub fn constrain_pads(
 }
 
 // The new offset adds the pads before the first row and the first column.
+pub fn offset_after(offset: Offset, pads: Pads) -> Offset
+    requires { ⌜ (offsetFits offset ≡ true) × (pads .left ≤ maxPad) × (pads .top ≤ maxPad) ⌝ }
+    ensures { λ r. ⌜ r ≡ extensionBy offset pads .offset ⌝ }
+{
+    let left = pads.left;
+    let top = pads.top;
+    Offset(offset.0 + left as i32, offset.1 + top as i32)
+}
+
 pub fn extension_by(offset: Offset, pads: Pads) -> ExtensionInfo
     requires { ⌜ (offsetFits offset ≡ true) × (PadsIn pads) ⌝ }
     ensures { λ r. ⌜ r ≡ extensionBy offset pads ⌝ }
@@ -97,7 +106,7 @@ pub fn extension_by(offset: Offset, pads: Pads) -> ExtensionInfo
     let right = pads.right;
     let top = pads.top;
     let bottom = pads.bottom;
-    let moved = Offset(offset.0 + left as i32, offset.1 + top as i32);
+    let moved = offset_after(offset, pads);
     ExtensionInfo {
         pads,
         offset: moved,

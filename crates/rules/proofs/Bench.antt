@@ -136,6 +136,9 @@ narrow = panel 2 1 chequer (record { 0 = pos 5; 1 = negsuc 2 })
 abbrev uneven : Board
 uneven = board (2 ∷ 1 ∷ []) (7 ∷ 0 ∷ []) (2 ∷ 2 ∷ [])
 
+abbrev heavy : Board
+heavy = board (2 ∷ 1 ∷ []) (4000000001 ∷ 0 ∷ []) (2 ∷ 2 ∷ [])
+
 -- so many lent entries a plane
 abbrev room : ℕ → Board
 room n = board (replicate n 0) (replicate n 0) (replicate n 0)
@@ -207,6 +210,9 @@ table =
     ∷ case (offset-of (widening narrow 2 uneven (pads 0 63 0 0) (room 65))) (1 ∷ [])
     ∷ case (offset-of (widening narrow 2 uneven (pads 1 0 2 1) (room 11))) (2 ∷ [])
     ∷ case (offset-of (widening (panel 2 1 chequer (record { 0 = pos 1000000; 1 = pos 0 })) 2 uneven (pads 1 0 2 1) (room 12))) (6 ∷ [])
+    -- and of several faults the lowest: planes too short, and a weight and an offset out of bounds
+    ∷ case (offset-of (widening (panel 2 1 chequer (record { 0 = pos 1000001; 1 = pos 0 })) 2 heavy (pads 1 0 2 1) (room 11))) (2 ∷ [])
+    ∷ case (offset-of (widening (panel 2 1 chequer (record { 0 = pos 1000001; 1 = pos 0 })) 2 heavy (pads 1 0 2 1) (room 12))) (4 ∷ [])
     ∷ []
 
 -- a case holds where what is got is what is due

@@ -70,7 +70,7 @@ gap-moved l a b = omega arith
 pub flat-embeds : (rows cols : ℕ) (p : Pads)
     → Embeds (flat rows cols) (flat (newRows rows p) (newCols cols p)) (rows * cols) (newRows rows p * newCols cols p) (embedded cols p)
 unfolding flat
-flat-embeds rows cols p = record { apart = apart; cell = cell; total = total }
+flat-embeds rows cols p = record { apart = apart; cell = cell; whole = whole; total = total }
   where
     wide : ℕ
     wide = newCols cols p
@@ -89,6 +89,9 @@ flat-embeds rows cols p = record { apart = apart; cell = cell; total = total }
     apart j k j< k< =
         rw (row j j<, row k k<, col j j<, col k k<, gap-moved (p .left) (j / cols) (k / cols), gap-moved (p .top) (j % cols) (k % cols))
 
+    start-in : (s : ℕ) → s / cols < rows → s % cols < cols → s < rows * cols
+    start-in s r< c< = subst (λ (n : ℕ). n < rows * cols) (cell-is s cols) (cell-lt r< c<)
+
     cell : (s i : ℕ) → i < 9 → (ltb (s / cols + 2) rows && ltb (s % cols + 2) cols) ≡ true
         → (entryOrPast rows cols (cellAt (s / cols + i / 3) (s % cols + i % 3)) < rows * cols)
         × (entryOrPast (newRows rows p) wide (cellAt (e s / wide + i / 3) (e s % wide + i % 3)) ≡ e (entryOrPast rows cols (cellAt (s / cols + i / 3) (s % cols + i % 3))))
@@ -96,13 +99,22 @@ flat-embeds rows cols p = record { apart = apart; cell = cell; total = total }
         let h : Shown rows cols s i = shown rows cols s i i< inside in
         let r< : s / cols + i / 3 < rows = h .row-low in
         let c< : s % cols + i % 3 < cols = h .col-low in
-        let s< : s < rows * cols = subst (λ (n : ℕ). n < rows * cols) (cell-is s cols) (cell-lt {r = s / cols} {c = s % cols} (omega arith) (omega arith)) in
+        let s< : s < rows * cols = start-in s (omega arith) (omega arith) in
         let ra : (p .left + s / cols) + i / 3 ≡ p .left + (s / cols + i / 3) = omega arith in
         let ca : (p .top + s % cols) + i % 3 ≡ p .top + (s % cols + i % 3) = omega arith in (
           rw (h .at) (cell-lt r< c<),
           rw (h .at, row s s<, col s s<, row-of (s / cols + i / 3) c<, col-of (s / cols + i / 3) c<, ra, ca)
               (number-in (newRows rows p) wide (p .left + (s / cols + i / 3)) (p .top + (s % cols + i % 3)) (omega arith) (omega arith)),
         )
+
+    whole : (s : ℕ) → (ltb (s / cols + 2) rows && ltb (s % cols + 2) cols) ≡ true
+        → (ltb (e s / wide + 2) (newRows rows p) && ltb (e s % wide + 2) wide) ≡ true
+    whole s inside =
+        let h : Shown rows cols s 8 = shown rows cols s 8 (omega arith) inside in
+        let r< : s / cols + 2 < rows = h .row-low in
+        let c< : s % cols + 2 < cols = h .col-low in
+        let s< : s < rows * cols = start-in s (omega arith) (omega arith) in
+        rw (row s s<, col s s<) (and-both _ _ (lt-ltb ((p .left + s / cols) + 2) (newRows rows p) (omega arith)) (lt-ltb ((p .top + s % cols) + 2) wide (omega arith)))
 
     -- an old cell lies in the part of the grid that the pads leave
     boxed : (r c : ℕ) → c < wide → (j : ℕ) → j < rows * cols → e j ≡ r * wide + c → InBox (p .left) rows (p .top) cols r c

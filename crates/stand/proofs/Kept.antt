@@ -2,7 +2,8 @@
 --     pieces-kept     each piece stands at its wall coordinate
 --     weights-kept    each old cell keeps its weight, whatever it is
 --     new-bare, new-weights    a new cell is bare, and its weight is the one that the standing pieces say
---     no-pads         four pads of 0 keep the panel, the pieces and the weights
+--     counts-kept     what the pieces say of a region that lies on the old board, they say of it in the wider panel
+--     no-pads         four pads of 0 keep the panel, the pieces and the weights, and the counts are worked out
 -- Assumes nothing.
 use Prim.Native.Nat.{ℕ, _+_, _*_, _/_, _%_, _<_}
 use mathlib.Core.Path.{_≡_, refl, sym, _∙_, ap, subst}
@@ -12,19 +13,20 @@ use native.Mathlib.Omega.{arith}
 use lib.ListN.{length, getD}
 use lib.IntN.{+ℤ-idr}
 use Rattle.base.specs.Tables.{tab}
-use Rattle.base.proofs.Bools.{never}
+use Rattle.base.proofs.Bools.{never, pick-yes}
 use Rattle.base.proofs.Numbers.{cell-is}
 use Rattle.base.proofs.Tabled.{getD-tab, is-tab}
 use Rattle.rules.specs.Bounds.{bare}
 use Rattle.rules.specs.Tests.{onBoard}
 use Rattle.rules.specs.Places.{extensionBy, newRows, newCols, copiedCell, copied}
-use Rattle.rules.specs.Board.{Panel, shapeOf, entryIn, Board, weightsOf}
+use Rattle.rules.specs.Board.{Panel, shapeOf, entryIn, Board, weightsOf, countsOf}
 use Rattle.rules.specs.Widening.{wider, widenedPieces, widenedWeights, widened}
 use Rattle.rules.specs.declared.World.{World}
 use Rattle.rules.specs.declared.Pads.{Pads}
 use Rattle.stand.specs.Runs.{wallOf}
-use Rattle.stand.proofs.Moved.{New}
-use Rattle.stand.proofs.Widened.{embedded, embedded-in, old-spread, new-spread, spread-is, pieces-carried}
+use Rattle.stand.proofs.Shared.{count-at}
+use Rattle.stand.proofs.Moved.{New, count-carried}
+use Rattle.stand.proofs.Widened.{embedded, GridsEmbed, pieces-long, embedded-in, old-spread, new-spread, spread-is, pieces-carried}
 use Rattle.stand.proofs.Walls.{lies, cell-in, place-back, wall-lies, entry-wider, wall-wider}
 
 module _ (j : Panel) (p : Pads) (b : Board) where
@@ -61,6 +63,22 @@ module _ (j : Panel) (p : Pads) (b : Board) where
     unfolding widened widenedWeights
     new-weights = getD-tab _ _ _ 0 (cell-in (wider j p) v on) ∙ new-spread (j .rows) (j .cols) p (b .weights) _ _ is-new
 
+  -- the count of a region that lies whole on the old board
+  pub counts-kept : GridsEmbed (j .kind) → length (b .pieces) ≡ j .rows * j .cols → (v : World) → onBoard (j .rows) (j .cols) v (j .offset) ≡ true
+      → shapeOf j .whole (entryIn j v) ≡ true
+      → getD (widened j p b .counts) (entryIn (wider j p) v) 0 ≡ getD (countsOf (shapeOf j) (j .tiles) (b .pieces)) (entryIn j v) 0
+  unfolding widened
+  counts-kept grids long v on whole =
+      let k : ℕ = entryIn j v in
+      let embeds = grids (j .rows) (j .cols) p in
+      let moved : List ℕ = widenedPieces (j .rows) (j .cols) p (b .pieces) in
+      ap (λ (i : ℕ). getD (countsOf (shapeOf (wider j p)) (j .tiles) moved) i 0) (entry-wider j p v on)
+      ∙ count-at (shapeOf (wider j p)) (j .tiles) moved (embedded (j .cols) p k) (pieces-long (j .rows) (j .cols) p (b .pieces)) (embedded-in (j .rows) (j .cols) p k (cell-in j v on))
+      ∙ pick-yes _ _ _ (embeds .whole k whole)
+      ∙ count-carried embeds (pieces-carried (j .rows) (j .cols) p (b .pieces)) (j .tiles) k whole
+      ∙ sym (pick-yes _ _ _ whole)
+      ∙ sym (count-at (shapeOf j) (j .tiles) (b .pieces) k long (cell-in j v on))
+
 -- ---- four pads of 0
 
 abbrev pub noPads : Pads
@@ -89,18 +107,16 @@ plane-stays rows cols plane fill long =
         rw (r, c)
 
 pub no-pads : (j : Panel) (b : Board) → length (b .pieces) ≡ j .rows * j .cols → length (b .weights) ≡ j .rows * j .cols
-    → (wider j noPads ≡ j) × (widened j noPads b .pieces ≡ b .pieces) × (widened j noPads b .weights ≡ b .weights)
+    → (wider j noPads ≡ j)
+    × (widened j noPads b .pieces ≡ b .pieces)
+    × (widened j noPads b .weights ≡ b .weights)
+    × (widened j noPads b .counts ≡ countsOf (shapeOf j) (j .tiles) (b .pieces))
 unfolding widened widenedPieces copied widenedWeights extensionBy
 no-pads j b pieces weights = (
-  (λ i. record {
-    kind = j .kind;
-    rows = rows i;
-    cols = cols i;
-    tiles = j .tiles;
-    offset = record { 0 = +ℤ-idr (j .offset .0) i; 1 = +ℤ-idr (j .offset .1) i };
-  }),
+  same,
   plane-stays (j .rows) (j .cols) (b .pieces) (λ k. bare) pieces,
   plane-stays (j .rows) (j .cols) (b .weights) _ weights,
+  (λ i. countsOf (shapeOf (same i)) (j .tiles) (plane-stays (j .rows) (j .cols) (b .pieces) (λ k. bare) pieces i)),
 )
   where
     rows : newRows (j .rows) noPads ≡ j .rows
@@ -108,3 +124,13 @@ no-pads j b pieces weights = (
 
     cols : newCols (j .cols) noPads ≡ j .cols
     cols = omega arith
+
+    same : wider j noPads ≡ j
+    same i =
+        record {
+          kind = j .kind;
+          rows = rows i;
+          cols = cols i;
+          tiles = j .tiles;
+          offset = record { 0 = +ℤ-idr (j .offset .0) i; 1 = +ℤ-idr (j .offset .1) i };
+        }

@@ -1,7 +1,7 @@
 -- A grid stands in a larger one: what the pieces say of a cell does not change when they are carried there.
 --     weight-carried    the weight of a cell
 --     count-carried     how many tiles fit a region that lies inside
--- Over any two shapes: each distance is kept, and each cell of a region; a sum over the cells of the larger grid, to which its other cells
+-- Over any two shapes: each distance is kept, each cell of a region, and that it lies inside; a sum over the cells of the larger grid, to which its other cells
 -- add nothing, is one over the cells of the smaller. Assumes nothing.
 use Prim.Native.Nat.{ℕ, _<_, _-_}
 use mathlib.Core.Path.{_≡_, _∙_, ap}
@@ -25,6 +25,7 @@ New n e k = (j : ℕ) → j < n → e j ≢ k
 pub record Embeds (g h : Shape) (n m : ℕ) (e : ℕ → ℕ) : Type 0 where
   pub apart : (j k : ℕ) → j < n → k < n → h .apart (e j) (e k) ≡ g .apart j k
   pub cell : (s i : ℕ) → i < 9 → g .whole s ≡ true → (g .cell s i < n) × (h .cell (e s) i ≡ e (g .cell s i))
+  pub whole : (s : ℕ) → g .whole s ≡ true → h .whole (e s) ≡ true
   pub total : (f : ℕ → ℕ) → ((k : ℕ) → k < m → New n e k → f k ≡ 0) → sum m f ≡ sum n (λ j. f (e j))
 
 -- the pieces p of the smaller grid stand as q in the larger one, on whose other cells no piece stands

@@ -127,7 +127,7 @@ module _ (rows cols : ℕ) (p : Pads) where
       (old-or-new k))
 
   -- the pieces go along with their cells, and the new cells are bare
-  pieces-long : (pieces : List ℕ) → length (widenedPieces rows cols p pieces) ≡ widerCells
+  pub pieces-long : (pieces : List ℕ) → length (widenedPieces rows cols p pieces) ≡ widerCells
   unfolding widenedPieces copied
   pieces-long pieces = length-tab widerCells _
 

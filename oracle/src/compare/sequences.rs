@@ -1,7 +1,8 @@
 //! Runs of lay, lift and widen from a fresh board, refused calls among them. After every call the board is held against the
 //! text's own steps, and against a board of the port's, of the size and offset that it then has, that is laid afresh with
 //! the standing pieces only, in another order. The text cannot widen: there the board it goes on with is one of the new
-//! size and offset, on which it has laid the standing pieces at their wall coordinates.
+//! size and offset, on which it has laid the standing pieces at their wall coordinates. Some acts name another colour count
+//! than the job's; the board laid afresh names one that has all colours.
 
 use super::board::board_planes;
 use super::{Input, Shows};
@@ -17,13 +18,40 @@ use std::cell::RefMut;
 enum Call {
     Lay(World, u32),
     Lift(World),
-    /// a lay under another colour count, to be refused
-    LayUnder(World, u32, u32),
     /// all pieces at most one cell from a place: lifts one by one, and for the text its whole resolution at once
     Clear(World),
-    Widen(Pads),
-    /// a widening into a plane of counts that lacks a cell, to be refused
-    WidenShort(Pads),
+    /// with a plane of a wrong length it is refused
+    Widen(Pads, Option<WrongLength>),
+}
+
+/// One of a widening's planes, the three new ones and then the three old ones, is lent with a cell too many or too few.
+#[derive(Clone, Copy, Debug, PartialEq)]
+struct WrongLength {
+    plane: usize,
+    longer: bool,
+}
+
+/// A call and the colour count that it names, the job's where it is none. Clearing names one that has all colours.
+#[derive(Clone, Copy, Debug, PartialEq)]
+struct Act {
+    call: Call,
+    count: Option<u32>,
+}
+
+impl Act {
+    fn plain(call: Call) -> Self {
+        Self { call, count: None }
+    }
+
+    fn smaller(self) -> Vec<Self> {
+        let mut all: Vec<Self> = self.count.iter().map(|_| Self::plain(self.call)).collect();
+        if let Call::Widen(pads, wrong) = self.call {
+            all.extend(wrong.map(|_| Self { call: Call::Widen(pads, None), ..self }));
+            let with = |pads: Pads| Self { call: Call::Widen(pads, wrong), ..self };
+            all.extend(inputs::smaller_pads(pads).into_iter().map(with));
+        }
+        all
+    }
 }
 
 /// A board's sides, and the offset that puts it on the wall.
@@ -65,11 +93,16 @@ impl Frame {
         Self { rows, cols, offset }
     }
 
-    /// The lengths of the new planes that are lent.
-    fn lent(self, pads: Pads, short: bool) -> [usize; 3] {
+    /// The planes that a widening is lent: the new pieces, weights and counts, and the old ones.
+    fn lent(self, pads: Pads, old: [Vec<u32>; 3], wrong: Option<WrongLength>) -> [[Vec<u32>; 3]; 2] {
         let (rows, cols) = refusals::padded(self.rows, self.cols, pads);
-        let cells = rows.min(65) * cols.min(65);
-        [cells, cells, cells - usize::from(short)]
+        let new = vec![GARBAGE; rows.min(65) * cols.min(65)];
+        let mut lent = [[new.clone(), new.clone(), new], old];
+        if let Some(WrongLength { plane, longer }) = wrong {
+            let plane = &mut lent[plane / 3][plane % 3];
+            plane.resize(if longer { plane.len() + 1 } else { plane.len() - 1 }, 1);
+        }
+        lent
     }
 }
 
@@ -77,7 +110,15 @@ impl Frame {
 pub struct SequenceInput {
     frame: Frame,
     tiles: TileList,
-    calls: Vec<Call>,
+    acts: Vec<Act>,
+}
+
+impl SequenceInput {
+    /// The largest of the job's count and those that the acts name: no piece that stands has a colour above it.
+    fn most(&self) -> u32 {
+        let named = self.acts.iter().filter_map(|act| act.count).filter(|&count| count <= 30);
+        named.fold(self.tiles.count(), u32::max)
+    }
 }
 
 /// Boards with more pieces than this are laid afresh after the last call only.
@@ -101,7 +142,10 @@ fn said_with(answer: Answer<()>, offset: Offset) -> Vec<Value> {
 /// A board of the port's: its frame, the tiles and the three planes, each with its guard words.
 struct Lending {
     frame: Frame,
+    /// the job's colour count
     count: u32,
+    /// a count that has all colours
+    most: u32,
     tiles: Lent<u8>,
     pieces: Lent<u32>,
     weights: Lent<u32>,
@@ -113,13 +157,13 @@ struct Lending {
 const GARBAGE: u32 = 0xdead_beef;
 
 impl Lending {
-    fn fresh(frame: Frame, tiles: &[u8], count: u32) -> Self {
+    fn fresh(frame: Frame, tiles: &[u8], count: u32, most: u32) -> Self {
         let garbage = vec![GARBAGE; frame.rows * frame.cols];
         let [mut pieces, mut weights, mut counts] = [(); 3].map(|()| Lent::new(&garbage));
         let [a, b, c] = [&mut pieces, &mut weights, &mut counts].map(Lent::cells_mut);
         let answer = side::fresh(a, b, c, frame.rows, frame.cols, tiles.len() / 9);
         assert_eq!(answer, Ok(()), "fresh was refused");
-        Self { frame, count, tiles: Lent::new(tiles), pieces, weights, counts, kept: true }
+        Self { frame, count, most, tiles: Lent::new(tiles), pieces, weights, counts, kept: true }
     }
 
     fn lay(&mut self, count: u32, world: World, colour: u32) -> Answer<()> {
@@ -137,7 +181,7 @@ impl Lending {
         )
     }
 
-    fn lift(&mut self, world: World) -> Answer<()> {
+    fn lift(&mut self, count: u32, world: World) -> Answer<()> {
         side::lift(
             self.pieces.cells_mut(),
             self.weights.cells_mut(),
@@ -145,7 +189,7 @@ impl Lending {
             self.frame.rows,
             self.frame.cols,
             self.tiles.cells(),
-            self.count,
+            count,
             world,
             self.frame.offset,
         )
@@ -155,16 +199,17 @@ impl Lending {
         for place in self.frame.round(world) {
             let Cell(row, col) = self.frame.cell(place).expect("a place on the board");
             if self.pieces.cells()[row * self.frame.cols + col] > 1 {
-                assert_eq!(self.lift(place), Ok(()), "a standing piece was not lifted");
+                assert_eq!(self.lift(self.most, place), Ok(()), "a standing piece was not lifted");
             }
         }
     }
 
     /// The old planes are lent anew, so that they can be held against what they were.
-    fn widen(&mut self, pads: Pads, short: bool) -> Vec<Value> {
+    fn widen(&mut self, count: u32, pads: Pads, wrong: Option<WrongLength>) -> Vec<Value> {
         let Frame { rows, cols, offset } = self.frame;
-        let mut old = [&self.pieces, &self.weights, &self.counts].map(|plane| Lent::new(plane.cells()));
-        let mut wide = self.frame.lent(pads, short).map(|len| Lent::new(&vec![GARBAGE; len]));
+        let old = [&self.pieces, &self.weights, &self.counts].map(|plane| plane.cells().to_vec());
+        let lent = self.frame.lent(pads, old, wrong);
+        let [mut wide, mut old] = lent.map(|planes| planes.map(|plane| Lent::new(&plane)));
         let mut told = Lent::new(&[7, -7]);
         let [wide_pieces, wide_weights, wide_counts] = wide.each_mut().map(Lent::cells_mut);
         let [pieces, weights, counts] = old.each_ref().map(Lent::cells);
@@ -179,7 +224,7 @@ impl Lending {
             cols,
             pads,
             self.tiles.cells(),
-            self.count,
+            count,
             offset,
             told.cells_mut(),
         );
@@ -194,28 +239,27 @@ impl Lending {
         said_with(answer, self.frame.offset)
     }
 
-    fn act(&mut self, call: Call) -> Vec<Value> {
-        match call {
-            Call::Lay(world, colour) => vec![said(self.lay(self.count, world, colour))],
-            Call::LayUnder(world, colour, count) => vec![said(self.lay(count, world, colour))],
-            Call::Lift(world) => vec![said(self.lift(world))],
+    fn act(&mut self, act: Act) -> Vec<Value> {
+        let count = act.count.unwrap_or(self.count);
+        match act.call {
+            Call::Lay(world, colour) => vec![said(self.lay(count, world, colour))],
+            Call::Lift(world) => vec![said(self.lift(count, world))],
             Call::Clear(world) => {
                 self.clear(world);
                 Vec::new()
             }
-            Call::Widen(pads) => self.widen(pads, false),
-            Call::WidenShort(pads) => self.widen(pads, true),
+            Call::Widen(pads, wrong) => self.widen(count, pads, wrong),
         }
     }
 
     /// A board of this frame with the standing pieces only, laid in an order of leaps.
     fn afresh(&self) -> Self {
-        let mut board = Self::fresh(self.frame, self.tiles.cells(), self.count);
+        let mut board = Self::fresh(self.frame, self.tiles.cells(), self.count, self.most);
         let mut standing = self.frame.standing(self.pieces.cells());
         let cell = |world: World| self.frame.cell(world).map_or(0, |cell| cell.0 * self.frame.cols + cell.1);
         standing.sort_by_key(|&(world, _)| cell(world).wrapping_mul(0x9e37_79b9) % 1009);
         for (world, colour) in standing {
-            assert_eq!(board.lay(self.count, world, colour), Ok(()), "a standing piece was refused");
+            assert_eq!(board.lay(self.most, world, colour), Ok(()), "a standing piece was refused");
         }
         board
     }
@@ -248,15 +292,17 @@ fn place(world: World) -> [i32; 2] {
 }
 
 impl<'a> Judge<'a> {
-    fn new(frame: Frame, tiles: &'a TileList) -> Self {
-        Self { frame, tiles, job: tiles.job(), board: Board::fresh(frame.sides(), tiles.number()) }
+    /// A job with more colours than the tiles' count if the acts name more.
+    fn new(frame: Frame, tiles: &'a TileList, most: u32) -> Self {
+        let job = if most > tiles.count() { tiles.job_of_all() } else { tiles.job() };
+        Self { frame, tiles, job, board: Board::fresh(frame.sides(), tiles.number()) }
     }
 
     fn shift(&self) -> [i32; 2] {
         [self.frame.offset.0, self.frame.offset.1]
     }
 
-    /// What the table says of a lay or a lift on the board as it stands.
+    /// What the table says of a lay or a lift under this colour count on the board as it stands.
     fn refused(&self, count: u32, world: World, colour: Option<u32>) -> Option<Refusal> {
         let (pieces, weights, counts) = (self.board.pieces(), self.board.weights(), self.board.counts());
         let Frame { rows, cols, offset } = self.frame;
@@ -273,8 +319,8 @@ impl<'a> Judge<'a> {
         said(refused.map_or(Ok(()), Err))
     }
 
-    fn lift(&mut self, world: World) -> Value {
-        let refused = self.refused(self.tiles.count(), world, None);
+    fn lift(&mut self, count: u32, world: World) -> Value {
+        let refused = self.refused(count, world, None);
         if refused.is_none() {
             let shift = self.shift();
             self.job.lift(&mut self.board, place(world), shift);
@@ -282,12 +328,13 @@ impl<'a> Judge<'a> {
         said(refused.map_or(Ok(()), Err))
     }
 
-    fn widen(&mut self, pads: Pads, short: bool) -> Vec<Value> {
-        let (pieces, weights, counts) = (self.board.pieces(), self.board.weights(), self.board.counts());
+    fn widen(&mut self, count: u32, pads: Pads, wrong: Option<WrongLength>) -> Vec<Value> {
+        let old = [self.board.pieces(), self.board.weights(), self.board.counts()];
         let Frame { rows, cols, offset } = self.frame;
-        let (tiles, count) = (self.tiles.bytes(), self.tiles.count());
-        let lent = self.frame.lent(pads, short);
-        let refused = refusals::widen(lent, &pieces, &weights, &counts, rows, cols, pads, tiles, count, offset);
+        let tiles = self.tiles.bytes();
+        let [wide, [pieces, weights, counts]] = self.frame.lent(pads, old, wrong);
+        let wide = wide.map(|plane| plane.len());
+        let refused = refusals::widen(wide, &pieces, &weights, &counts, rows, cols, pads, tiles, count, offset);
         if refused.is_none() {
             let standing = self.frame.standing(&pieces);
             self.frame = self.frame.widened(pads, Offset(offset.0 + pads.left as i32, offset.1 + pads.top as i32));
@@ -300,11 +347,11 @@ impl<'a> Judge<'a> {
         said_with(refused.map_or(Ok(()), Err), self.frame.offset)
     }
 
-    fn act(&mut self, call: Call) -> Vec<Value> {
-        match call {
-            Call::Lay(world, colour) => vec![self.lay(self.tiles.count(), world, colour)],
-            Call::LayUnder(world, colour, count) => vec![self.lay(count, world, colour)],
-            Call::Lift(world) => vec![self.lift(world)],
+    fn act(&mut self, act: Act) -> Vec<Value> {
+        let count = act.count.unwrap_or(self.tiles.count());
+        match act.call {
+            Call::Lay(world, colour) => vec![self.lay(count, world, colour)],
+            Call::Lift(world) => vec![self.lift(count, world)],
             Call::Clear(world) => {
                 if let Some(Cell(row, col)) = self.frame.cell(world) {
                     let shift = self.shift();
@@ -312,8 +359,7 @@ impl<'a> Judge<'a> {
                 }
                 Vec::new()
             }
-            Call::Widen(pads) => self.widen(pads, false),
-            Call::WidenShort(pads) => self.widen(pads, true),
+            Call::Widen(pads, wrong) => self.widen(count, pads, wrong),
         }
     }
 }
@@ -340,43 +386,126 @@ fn after(frame: Frame, pads: Pads) -> Option<Frame> {
     Some(Frame { rows, cols, offset: Offset(moved(frame.offset.0, pads.left)?, moved(frame.offset.1, pads.top)?) })
 }
 
-fn one_call(random: &mut Random, frame: Frame, tiles: &TileList, standing: &mut Vec<World>) -> Call {
-    let colour = 1 + random.below(tiles.count() as usize) as u32;
-    let mut place = inputs::world_on(random, frame.rows, frame.cols, frame.offset);
-    // often near a piece, where steps meet
-    if !standing.is_empty() && random.percent(50) {
-        let World(row, col) = random.pick(standing);
-        let near = World(row + random.within(-2, 2), col + random.within(-2, 2));
-        if frame.cell(near).is_some() {
-            place = near;
-        }
+/// The board as the acts drawn so far leave it.
+struct Draft<'a> {
+    frame: Frame,
+    tiles: &'a TileList,
+    standing: Vec<(World, u32)>,
+    /// the greatest colour in the tiles
+    in_tiles: u32,
+    /// the count that an act mostly names
+    usual: Option<u32>,
+    /// how many lays and lifts of a hundred name another one; of widenings, which are fewer, twice as many
+    others: usize,
+}
+
+impl<'a> Draft<'a> {
+    fn new(random: &mut Random, frame: Frame, tiles: &'a TileList) -> Self {
+        let in_tiles = tiles.bytes().iter().copied().max().map_or(0, u32::from);
+        let others = random.pick(&[0, 0, 15, 35]);
+        Self { frame, tiles, standing: Vec::new(), in_tiles, usual: None, others }
     }
-    match random.below(20) {
-        0..=9 => {
-            standing.push(place);
-            Call::Lay(place, colour)
+
+    /// The greatest colour in use: with a smaller count an act is refused.
+    fn greatest(&self) -> u32 {
+        self.standing.iter().map(|piece| piece.1).fold(self.in_tiles, u32::max)
+    }
+
+    /// The usual count; or one just large enough, one too small, one with more colours than the job's, or one out of bounds.
+    fn count(&mut self, random: &mut Random, others: usize) -> Option<u32> {
+        if !random.percent(others) {
+            return self.usual;
         }
-        10..=14 if !standing.is_empty() => {
-            let at = random.below(standing.len());
-            Call::Lift(standing.swap_remove(at))
+        let job = self.tiles.count();
+        let count = match random.below(8) {
+            0 => 1,
+            1 => 1 + random.below(job as usize) as u32,
+            2 => self.greatest(),
+            3 => self.greatest().saturating_sub(1),
+            4 => (job + 1).min(30),
+            5 => 1 + random.below(30) as u32,
+            6 => 30,
+            _ => inputs::spoil_count(random),
+        };
+        if (job..=30).contains(&count) && random.percent(30) {
+            self.usual = Some(count);
         }
-        15 => Call::Lay(place, random.pick(&[0, tiles.count() + 1, u32::MAX])),
-        16 => {
-            let mut bad = place;
-            if random.percent(50) {
-                inputs::spoil_wall(random, &mut bad);
-            } else {
-                inputs::spoil_place(random, frame.rows, frame.cols, &mut bad, frame.offset);
+        Some(count)
+    }
+
+    /// Any on the board, but often near a piece, where steps meet.
+    fn place(&self, random: &mut Random) -> World {
+        let place = inputs::world_on(random, self.frame.rows, self.frame.cols, self.frame.offset);
+        if self.standing.is_empty() || random.percent(50) {
+            return place;
+        }
+        let (World(row, col), _) = random.pick(&self.standing);
+        let near = World(row + random.within(-2, 2), col + random.within(-2, 2));
+        if self.frame.cell(near).is_some() { near } else { place }
+    }
+
+    fn off_the_board(&self, random: &mut Random, mut place: World) -> World {
+        if random.percent(50) {
+            inputs::spoil_wall(random, &mut place);
+        } else {
+            inputs::spoil_place(random, self.frame.rows, self.frame.cols, &mut place, self.frame.offset);
+        }
+        place
+    }
+
+    /// A lay, a lift or a clearing.
+    fn piece(&mut self, random: &mut Random) -> Act {
+        let count = self.count(random, self.others);
+        let (job, place) = (self.tiles.count(), self.place(random));
+        let named = count.unwrap_or(job);
+        let most = if random.percent(50) { job } else { named.clamp(1, 30) };
+        let colour = 1 + random.below(most as usize) as u32;
+        let call = match random.below(20) {
+            0..=9 => Call::Lay(place, colour),
+            10..=14 if !self.standing.is_empty() => Call::Lift(random.pick(&self.standing).0),
+            15 => Call::Lay(place, random.pick(&[0, named.saturating_add(1), u32::MAX])),
+            16 if random.percent(50) => Call::Lay(self.off_the_board(random, place), colour),
+            16 => Call::Lift(self.off_the_board(random, place)),
+            17 => return Act { call: Call::Lay(place, colour), count: Some(inputs::spoil_count(random)) },
+            18 => {
+                let cell = Cell(random.below(self.frame.rows), random.below(self.frame.cols));
+                return Act::plain(Call::Clear(inputs::world_of(cell, self.frame.offset)));
             }
-            if random.percent(50) { Call::Lay(bad, colour) } else { Call::Lift(bad) }
+            // often bare
+            _ => Call::Lift(place),
+        };
+        Act { call, count }
+    }
+
+    /// One of ten has a plane of a wrong length.
+    fn widening(&mut self, random: &mut Random) -> Act {
+        let mut wrong = None;
+        if random.percent(10) {
+            wrong = Some(WrongLength { plane: random.below(6), longer: random.percent(50) });
         }
-        17 => Call::LayUnder(place, colour, inputs::spoil_count(random)),
-        18 => {
-            let cell = Cell(random.below(frame.rows), random.below(frame.cols));
-            Call::Clear(inputs::world_of(cell, frame.offset))
+        let call = Call::Widen(pads(random, self.frame), wrong);
+        Act { call, count: self.count(random, 2 * self.others) }
+    }
+
+    /// The board goes on if the act is accepted.
+    fn follow(&mut self, act: Act) {
+        let count = act.count.unwrap_or(self.tiles.count());
+        let fits = (self.greatest().max(1)..=30).contains(&count);
+        match act.call {
+            Call::Lay(world, colour) => {
+                let bare = self.frame.cell(world).is_some() && self.standing.iter().all(|piece| piece.0 != world);
+                if fits && bare && (1..=count).contains(&colour) {
+                    self.standing.push((world, colour));
+                }
+            }
+            Call::Lift(world) if fits => self.standing.retain(|piece| piece.0 != world),
+            Call::Clear(world) => {
+                let cleared = self.frame.round(world);
+                self.standing.retain(|piece| !cleared.contains(&piece.0));
+            }
+            Call::Widen(pads, None) if fits => self.frame = after(self.frame, pads).unwrap_or(self.frame),
+            _ => {}
         }
-        // often bare
-        _ => Call::Lift(place),
     }
 }
 
@@ -386,7 +515,8 @@ fn all_runs(sides: (usize, usize), calls: &[Call], number: u32, each: &mut dyn F
     let frame = Frame { rows: sides.0, cols: sides.1, offset: Offset(0, 0) };
     for run in 0..calls.len().pow(number) {
         let call = |turn: u32| calls[run / calls.len().pow(turn) % calls.len()];
-        each(SequenceInput { frame, tiles: tiles.clone(), calls: (0..number).map(call).collect() });
+        let acts = (0..number).map(|turn| Act::plain(call(turn))).collect();
+        each(SequenceInput { frame, tiles: tiles.clone(), acts });
     }
 }
 
@@ -404,7 +534,7 @@ impl Input for SequenceInput {
         Shows { answer: true, planes: true, floats: false, refusals: false, lends: true, reads: true }
     }
 
-    /// Two of three have widenings among their calls.
+    /// Two of three have widenings among their acts, and one of two has acts that name another count than the job's.
     fn random(_: (), random: &mut Random, tiles: &TileList) -> Self {
         let (mut rows, mut cols) = (inputs::side(random), inputs::side(random));
         if rows * cols > 200 && !random.percent(15) {
@@ -412,20 +542,14 @@ impl Input for SequenceInput {
         }
         let frame = Frame { rows, cols, offset: inputs::offset(random) };
         let widens = random.pick(&[0, 8, 20]);
-        let (mut now, mut standing) = (frame, Vec::new());
-        let mut calls = Vec::new();
+        let mut draft = Draft::new(random, frame, tiles);
+        let mut acts = Vec::new();
         for _ in 0..1 + random.below(40) {
-            if !random.percent(widens) {
-                calls.push(one_call(random, now, tiles, &mut standing));
-            } else if random.percent(10) {
-                calls.push(Call::WidenShort(pads(random, now)));
-            } else {
-                let pads = pads(random, now);
-                now = after(now, pads).unwrap_or(now);
-                calls.push(Call::Widen(pads));
-            }
+            let act = if random.percent(widens) { draft.widening(random) } else { draft.piece(random) };
+            draft.follow(act);
+            acts.push(act);
         }
-        Self { frame, tiles: tiles.clone(), calls }
+        Self { frame, tiles: tiles.clone(), acts }
     }
 
     /// Every run of three calls on a 1x3 and on a 3x3 board, where a call is a lay or a lift at any cell; the colour laid
@@ -440,7 +564,7 @@ impl Input for SequenceInput {
         }
         let places = [(World(0, 0), 1), (World(-1, 1), 2)];
         let pads = [[1, 1, 1, 1], [1, 0, 0, 0], [0, 2, 0, 0], [0, 0, 2, 0], [0, 0, 0, 1]];
-        let widenings = pads.map(|[left, right, top, bottom]| Call::Widen(Pads { left, right, top, bottom }));
+        let widenings = pads.map(|[left, right, top, bottom]| Call::Widen(Pads { left, right, top, bottom }, None));
         let pieces = places.into_iter().flat_map(|(world, colour)| [Call::Lay(world, colour), Call::Lift(world)]);
         all_runs((1, 1), &pieces.chain(widenings).collect::<Vec<_>>(), 4, each);
     }
@@ -449,22 +573,22 @@ impl Input for SequenceInput {
     fn spoil(&mut self, _: &mut Random) {}
 
     fn disturb(&mut self, random: &mut Random) {
-        let at = random.below(self.calls.len());
-        self.calls.remove(at);
-        self.calls.push(Call::Lift(World(i32::MAX, 0)));
+        let at = random.below(self.acts.len());
+        self.acts.remove(at);
+        self.acts.push(Act::plain(Call::Lift(World(i32::MAX, 0))));
     }
 
     fn smaller(&self) -> Vec<Self> {
         let mut all = Vec::new();
-        let calls = &self.calls;
-        if calls.len() > 3 {
-            all.push(Self { calls: calls[..calls.len() / 2].to_vec(), ..self.clone() });
-            all.push(Self { calls: calls[calls.len() / 2..].to_vec(), ..self.clone() });
+        let acts = &self.acts;
+        if acts.len() > 3 {
+            all.push(Self { acts: acts[..acts.len() / 2].to_vec(), ..self.clone() });
+            all.push(Self { acts: acts[acts.len() / 2..].to_vec(), ..self.clone() });
         }
-        for at in 0..calls.len() {
-            let mut fewer = calls.clone();
+        for at in 0..acts.len() {
+            let mut fewer = acts.clone();
             fewer.remove(at);
-            all.push(Self { calls: fewer, ..self.clone() });
+            all.push(Self { acts: fewer, ..self.clone() });
         }
         for rows in inputs::fewer(self.frame.rows).into_iter().filter(|&rows| rows > 0) {
             all.push(Self { frame: Frame { rows, ..self.frame }, ..self.clone() });
@@ -473,15 +597,12 @@ impl Input for SequenceInput {
             all.push(Self { frame: Frame { cols, ..self.frame }, ..self.clone() });
         }
         all.extend(self.tiles.smaller().into_iter().map(|tiles| Self { tiles, ..self.clone() }));
-        for (at, &call) in calls.iter().enumerate() {
-            if let Call::Widen(pads) = call {
-                let with = |pads: Pads| {
-                    let mut calls = calls.clone();
-                    calls[at] = Call::Widen(pads);
-                    Self { calls, ..self.clone() }
-                };
-                all.extend(inputs::smaller_pads(pads).into_iter().map(with));
-            }
+        for (at, act) in acts.iter().enumerate() {
+            all.extend(act.smaller().into_iter().map(|act| {
+                let mut acts = acts.clone();
+                acts[at] = act;
+                Self { acts, ..self.clone() }
+            }));
         }
         all
     }
@@ -492,13 +613,13 @@ impl Input for SequenceInput {
 
     /// The answers of all calls; the board after each, and again as the board laid afresh must be.
     fn expected(&self) -> Outcome {
-        let mut judge = Judge::new(self.frame, &self.tiles);
+        let mut judge = Judge::new(self.frame, &self.tiles, self.most());
         let (mut answers, mut planes) = (Vec::new(), Vec::new());
-        for (number, &call) in self.calls.iter().enumerate() {
-            answers.extend(judge.act(call));
+        for (number, &act) in self.acts.iter().enumerate() {
+            answers.extend(judge.act(act));
             let after = board_planes(&judge.board);
             planes.extend(after.clone());
-            if few(&judge.board.pieces(), number + 1 == self.calls.len()) {
+            if few(&judge.board.pieces(), number + 1 == self.acts.len()) {
                 planes.extend(after);
             }
         }
@@ -506,18 +627,62 @@ impl Input for SequenceInput {
     }
 
     fn observed(&self) -> Outcome {
-        let mut board = Lending::fresh(self.frame, self.tiles.bytes(), self.tiles.count());
+        let mut board = Lending::fresh(self.frame, self.tiles.bytes(), self.tiles.count(), self.most());
         let mut intact = true;
         let (mut answers, mut planes) = (Vec::new(), Vec::new());
-        for (number, &call) in self.calls.iter().enumerate() {
-            answers.extend(board.act(call));
+        for (number, &act) in self.acts.iter().enumerate() {
+            answers.extend(board.act(act));
             planes.extend(board.planes());
-            if few(board.pieces.cells(), number + 1 == self.calls.len()) {
+            if few(board.pieces.cells(), number + 1 == self.acts.len()) {
                 let mut afresh = board.afresh();
                 planes.extend(afresh.planes());
                 intact &= afresh.intact();
             }
         }
         Outcome { answer: Ok(answers), planes, intact: intact && board.intact() }
+    }
+}
+
+#[cfg(test)]
+mod tests {
+    use super::*;
+
+    /// The judge's answers to acts that name another count than the job's, by the sort of act, with whether it is larger.
+    fn answers(input: &SequenceInput) -> Vec<(&'static str, i64, bool)> {
+        let mut judge = Judge::new(input.frame, &input.tiles, input.most());
+        let mut found = Vec::new();
+        for &act in &input.acts {
+            let sort = match act.call {
+                Call::Lay(..) => "lay",
+                Call::Lift(_) => "lift",
+                Call::Clear(_) => "clear",
+                Call::Widen(..) => "widen",
+            };
+            let answer = judge.act(act);
+            if let (Some(count), Some(&Value::Whole(number))) = (act.count, answer.first()) {
+                found.push((sort, number, count > input.tiles.count()));
+            }
+        }
+        found
+    }
+
+    /// Each sort of act is accepted under a smaller and under a larger count, and refused by COUNT and by CELL: also under a
+    /// larger one, where a piece of a colour above it stands.
+    #[test]
+    fn other_counts_in_runs() {
+        // colours 1 and 2 of three
+        let tiles = TileList::new(vec![1, 2, 1, 2, 1, 2, 1, 2, 1], 3);
+        let mut seen = std::collections::BTreeMap::new();
+        for number in 0..100 {
+            let input = SequenceInput::random((), &mut Random::new(&[number]), &tiles);
+            answers(&input).into_iter().for_each(|found| *seen.entry(found).or_insert(0) += 1);
+        }
+        let (count, cell) = (i64::from(COUNT), i64::from(CELL));
+        for sort in ["lay", "lift", "widen"] {
+            for (answer, larger) in [(0, false), (0, true), (count, true), (cell, false), (cell, true)] {
+                assert!(seen.contains_key(&(sort, answer, larger)), "{sort}, {answer}, larger: {larger}; {seen:?}");
+            }
+        }
+        println!("{seen:?}");
     }
 }

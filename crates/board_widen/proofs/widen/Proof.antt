@@ -1,4 +1,5 @@
 -- `board_widen::widen` meets its contract: refused by a check, or the three planes are filled and the new offset is told. Assumes nothing.
+use native.Mathlib.Omega.{arith}
 use mathlib.Core.Path.{_≡_}
 use borrow.Author.Needs.{needs}
 use Rattle.base.specs.Refusal.{refusal}
@@ -61,7 +62,7 @@ offset-after-requires : tie.Need-offset-after-requires
 offset-after-requires c κs =
     let h = leans (c .before .before .before .before .before .before .before .before .before .before .before .before .before .before) in
     let low = pads-low _ _ _ (h .sized .new-sides) in
-    (h .fitting, low .0, low .1)
+    (h .fitting, omega (arith, low .0), omega (arith, low .1))
 
 same-length-4 : tie.Need-same-length-4
 same-length-4 c = search needs

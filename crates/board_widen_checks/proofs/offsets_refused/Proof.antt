@@ -1,4 +1,5 @@
 -- `board_widen_checks::offsets_refused` meets its contract: a chain of two checks. Assumes nothing.
+use native.Mathlib.Omega.{arith}
 use borrow.Author.Needs.{needs}
 use Rattle.base.proofs.Bools.{passes}
 use Rattle.base.proofs.Chain.{chain}
@@ -14,7 +15,7 @@ returns c = search chain depth 20 fits 5000
 
 offset-after-requires : tie.Need-offset-after-requires
 offset-after-requires c κs =
-    let s = c .before .before in (passes _ (c .before .offset-fits .ensures) (c .if1 .left), s .pre .0, s .pre .1)
+    let s = c .before .before in (passes _ (c .before .offset-fits .ensures) (c .if1 .left), omega (arith, s .pre .0), omega (arith, s .pre .1))
 
 offset-fits-requires-2 : tie.Need-offset-fits-requires-2
 offset-fits-requires-2 c κs = search needs

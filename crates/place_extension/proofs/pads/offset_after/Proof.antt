@@ -1,4 +1,4 @@
--- `board_widen_checks::offset_after` meets its contract: a pad fits 32 bits, and so does its sum with the offset.
+-- `place_extension::pads::offset_after` meets its contract: a pad fits 32 bits, and so does its sum with the offset.
 -- Assumes nothing.
 use native.Mathlib.Omega.{arith}
 use mathlib.Core.Path.{_≡_}
@@ -10,8 +10,8 @@ use Rattle.base.proofs.Signs.{Reads, given, counted, add-fits, added}
 use Rattle.rules.specs.Places.{extensionBy}
 use Rattle.rules.specs.declared.Offset.{Offset}
 use Rattle.places.proofs.Indices.{offset-low}
-use Rattle.board_widen_checks.proofs.offset_after.Statement.{statement}
-use Rattle.board_widen_checks.proofs.offset_after.Tie as tie
+use Rattle.place_extension.proofs.pads.offset_after.Statement.{statement}
+use Rattle.place_extension.proofs.pads.offset_after.Tie as tie
 
 module _ (c : tie.Start) where
   row-is : Reads w32 (ofZ w32 (c .args .offset .0)) (c .args .offset .0) 1000001
@@ -20,10 +20,10 @@ module _ (c : tie.Start) where
   col-is : Reads w32 (ofZ w32 (c .args .offset .1)) (c .args .offset .1) 1000001
   col-is = given w32 (offset-low (c .args .offset) (c .pre .0) .1) tt
 
-  left-is : Reads w32 (c .args .pads .left) (pos (c .args .pads .left)) 65
+  left-is : Reads w32 (c .args .pads .left) (pos (c .args .pads .left)) 3000001
   left-is = counted w32 (omega (arith, c .pre .1)) tt
 
-  top-is : Reads w32 (c .args .pads .top) (pos (c .args .pads .top)) 65
+  top-is : Reads w32 (c .args .pads .top) (pos (c .args .pads .top)) 3000001
   top-is = counted w32 (omega (arith, c .pre .2)) tt
 
 cast-t5 : tie.Need-cast-t5
