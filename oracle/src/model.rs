@@ -52,7 +52,7 @@ pub enum Slip {
     WidenedOffsetExchanged,
     WidenReadsNewPlanes,
     RefusedWidenFills,
-    /// the offset
+    /// it stores the offset
     RefusedWidenStores,
 }
 
@@ -773,9 +773,8 @@ pub fn widen(
             *weight = widened_weight(wide_pieces, new_rows, new_cols, cell(k), old(k).map(|entry| weights[entry]));
         }
         for (k, count) in wide_counts.iter_mut().enumerate() {
-            let kept = old(k).filter(|&entry| count_stays(rows, cols, entry));
-            let anew = || count_from_pieces(wide_pieces, new_rows, new_cols, tiles, cell(k));
-            *count = kept.map_or_else(anew, |entry| counts[entry]);
+            let kept = old(k).filter(|&entry| count_stays(rows, cols, entry)).map(|entry| counts[entry]);
+            *count = kept.unwrap_or_else(|| count_from_pieces(wide_pieces, new_rows, new_cols, tiles, cell(k)));
         }
         store_offset(new_offset, offset, pads);
     })

@@ -646,9 +646,11 @@ impl Input for SequenceInput {
 #[cfg(test)]
 mod tests {
     use super::*;
+    use std::cmp::Ordering::{self, Greater, Less};
+    use std::collections::BTreeSet;
 
-    /// The judge's answers to acts that name another count than the job's, by the sort of act, with whether it is larger.
-    fn answers(input: &SequenceInput) -> Vec<(&'static str, i64, bool)> {
+    /// The judge's answers to acts that name a count, by the sort of act and how the count compares with the job's.
+    fn answers(input: &SequenceInput) -> Vec<(&'static str, i64, Ordering)> {
         let mut judge = Judge::new(input.frame, &input.tiles, input.most());
         let mut found = Vec::new();
         for &act in &input.acts {
@@ -660,7 +662,7 @@ mod tests {
             };
             let answer = judge.act(act);
             if let (Some(count), Some(&Value::Whole(number))) = (act.count, answer.first()) {
-                found.push((sort, number, count > input.tiles.count()));
+                found.push((sort, number, count.cmp(&input.tiles.count())));
             }
         }
         found
@@ -672,17 +674,15 @@ mod tests {
     fn other_counts_in_runs() {
         // colours 1 and 2 of three
         let tiles = TileList::new(vec![1, 2, 1, 2, 1, 2, 1, 2, 1], 3);
-        let mut seen = std::collections::BTreeMap::new();
+        let mut seen = BTreeSet::new();
         for number in 0..100 {
-            let input = SequenceInput::random((), &mut Random::new(&[number]), &tiles);
-            answers(&input).into_iter().for_each(|found| *seen.entry(found).or_insert(0) += 1);
+            seen.extend(answers(&SequenceInput::random((), &mut Random::new(&[number]), &tiles)));
         }
         let (count, cell) = (i64::from(COUNT), i64::from(CELL));
         for sort in ["lay", "lift", "widen"] {
-            for (answer, larger) in [(0, false), (0, true), (count, true), (cell, false), (cell, true)] {
-                assert!(seen.contains_key(&(sort, answer, larger)), "{sort}, {answer}, larger: {larger}; {seen:?}");
+            for (answer, order) in [(0, Less), (0, Greater), (count, Greater), (cell, Less), (cell, Greater)] {
+                assert!(seen.contains(&(sort, answer, order)), "{sort}: no answer {answer} under a count {order:?}");
             }
         }
-        println!("{seen:?}");
     }
 }
