@@ -115,6 +115,16 @@ module _ (f g : ℕ → Bool) where
   tally-ext zero h = refl
   tally-ext (suc n) h = rw (tally-ext n (λ k l. h k (le-step l)), h n (lt-suc-self n))
 
+  -- f holds only where g does
+  pub tally-less : (n : ℕ) → ((k : ℕ) → k < n → f k ≡ true → g k ≡ true) → tally n f ≤ tally n g
+  unfolding tally
+  tally-less zero h = omega arith
+  tally-less (suc n) h =
+      let a : tally n f ≤ tally n g = tally-less n (λ k l. h k (le-step l)) in
+      by-test (f n)
+      (λ e. let b : g n ≡ true = h n (lt-suc-self n) e in rw (e, b) (omega arith))
+      (λ e. rw e (omega arith))
+
 -- one turn of a loop that counts, and its end
 pub tally-turn : {n sofar here : ℕ} {test : Bool} (f : ℕ → Bool) → sofar ≡ tally n f → test ≡ f n → here ≡ pick test 1 0 → sofar + here ≡ tally (n + 1) f
 tally-turn {n} f p q e = rw (p, e, q) (sym (tally-more f n))

@@ -11,11 +11,11 @@ use mathlib.Core.Bool.{Bool, true, false, not, _&&_, _||_}
 use mathlib.Core.List.{List}
 use native.Mathlib.Nat.{zero-div, lt-of-lt-of-le}
 use native.Mathlib.Omega.{arith}
-use borrow.Author.Tests.{not-false, ltb-true}
-use lib.Dec.{ltb, eqb}
+use borrow.Author.Tests.{not-false}
+use lib.Dec.{eqb}
 use lib.ListN.{getD}
 use lib.Pow.{pow-mono}
-use Rattle.base.specs.Counting.{every, some}
+use Rattle.base.specs.Counting.{some}
 use Rattle.base.specs.Tables.{tab}
 use Rattle.base.proofs.Bools.{never, not-is-true, by-test}
 use Rattle.base.proofs.Counted.{every-more, every-at, every-is, every-none, some-none, some-more, some-at, some-is}
@@ -114,13 +114,6 @@ module _ (g : Shape) (tiles pieces : List ℕ) (k : ℕ) where
       keeps-ext h (λ t a b. has-ext tiles (shownBy w) (pattern g pieces s) (read-is w _ r) q t ∙ sym (rw (e, p)))
 
 -- the nine windows
-order-test : every 9 (λ i. ltb (getD windowOrder i 0) 9) ≡ true
-unfolding every
-order-test = refl
-
-pub order-lt : (i : ℕ) → i < 9 → getD windowOrder i 0 < 9
-order-lt i l = ltb-true (getD windowOrder i 0) 9 (every-at (λ i. ltb (getD windowOrder i 0) 9) 9 order-test i l)
-
 module _ (g : Shape) (tiles pieces : List ℕ) (k count : ℕ) where
   pub left-first : bitsOf count (λ t. true) ≡ bitsOf count (leftAfter g tiles pieces k 0)
   unfolding leftAfter

@@ -1,3 +1,7 @@
+pub mod Meaning
+pub mod Said
+pub mod Fewer
+pub mod Choices
 pub mod Bench
 pub mod Answered
 pub mod Lowest

@@ -23,7 +23,7 @@ use Rattle.base.proofs.Tabled.{length-tab, getD-tab}
 use Rattle.base.proofs.Chain.{numbered, Passes, all-pass, none-fails}
 use Rattle.base.proofs.Numbers.{mul-le, within-low, within-high, within-is}
 use Rattle.rules.specs.Bounds.{maxColours, bare, maxBoardSide, maxWeight, TYPE, TAKEN, BARE}
-use Rattle.rules.specs.Tests.{boardSides, hasLength, wholeTiles, tilesIn, colourCount, noneAbove, entryUpTo, piecesStored, pieceStored, offsetFits}
+use Rattle.rules.specs.Tests.{boardSides, hasLength, wholeTiles, tilesIn, colourCount, noneAbove, entryUpTo, piecesStored, offsetFits}
 use Rattle.rules.specs.Grid.{laidOn}
 use Rattle.rules.specs.Fit.{placeChecks}
 use Rattle.rules.specs.Places.{newRows, newCols}
@@ -32,7 +32,9 @@ use Rattle.rules.specs.Widening.{wider, widenChecks}
 use Rattle.rules.specs.declared.World.{World}
 use Rattle.rules.specs.declared.Pads.{Pads}
 use Rattle.stand.specs.Runs.{fresh, Call, lay, lift, placeOf, countOf, refusalOf, step}
-use Rattle.stand.proofs.Shared.{Sound, laid-is, lifted-is, fresh-is, weights-long, counts-long, weight-low, count-low}
+use Rattle.rules.proofs.Said.{weights-long, counts-long}
+use Rattle.rules.proofs.Fewer.{put-stored}
+use Rattle.stand.proofs.Shared.{Sound, laid-is, lifted-is, fresh-is, weight-low, count-low}
 use Rattle.stand.proofs.Walls.{On, cell-in, Sides, sides-in}
 
 -- ---- when a call is accepted
@@ -176,20 +178,6 @@ step-by j b (lift count w) = refl
 put-some : (c : Call) → 1 ≤ putBy c
 put-some (lay count w colour) = omega arith
 put-some (lift count w) = omega arith
-
--- pieces that have colours of the count, and one more of them
-put-stored : (p : List ℕ) (count k v : ℕ) → piecesStored p count ≡ true → 1 ≤ v → v ≤ count + 1 → piecesStored (set p k v) count ≡ true
-unfolding piecesStored
-put-stored p count k v s low high =
-    every-is (pieceStored (set p k v) count) (length (set p k v))
-    (λ i i<.
-    let in-p : i < length p = omega (arith, length-set p k v) in
-    by-test (eqb i k)
-    (λ e.
-    let same : i ≡ k = eqb-true i k e in
-    let k< : k < length p = omega (arith, same, in-p) in
-    rw (same, getD-set-same p k v 0 k<) (within-is 1 (count + 1) v low high))
-    (λ e. rw (getD-set-other p k i v 0 (eqb-false i k e)) (every-at (pieceStored p count) (length p) s i in-p)))
 
 -- a count that may be named is at most the largest, which may be named then too
 few : {tiles : List ℕ} (count : ℕ) → Named tiles count → count ≤ maxColours

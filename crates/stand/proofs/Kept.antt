@@ -3,29 +3,34 @@
 --     weights-kept    each old cell keeps its weight, whatever it is
 --     new-bare, new-weights    a new cell is bare, and its weight is the one that the standing pieces say
 --     counts-kept     what the pieces say of a region that lies on the old board, they say of it in the wider panel
+--     widen-adds-none    the list of an old place gains no colour; widen-keeps: and loses none, where no window is kept that was skipped
+--     widen-raises-none  what the pieces say of the count of an old place does not rise
 --     no-pads         four pads of 0 keep the panel, the pieces and the weights, and the counts are worked out
 -- Assumes nothing.
-use Prim.Native.Nat.{ℕ, _+_, _*_, _/_, _%_, _<_}
+use Prim.Native.Nat.{ℕ, _+_, _*_, _/_, _%_, _<_, _≤_}
 use mathlib.Core.Path.{_≡_, refl, sym, _∙_, ap, subst}
 use mathlib.Core.Bool.{true, false}
 use mathlib.Core.List.{List}
+use native.Mathlib.Nat.{le-refl}
 use native.Mathlib.Omega.{arith}
 use lib.ListN.{length, getD}
 use lib.IntN.{+ℤ-idr}
 use Rattle.base.specs.Tables.{tab}
-use Rattle.base.proofs.Bools.{never, pick-yes}
+use Rattle.base.proofs.Bools.{never, by-test, same-test, pick-yes, pick-no}
 use Rattle.base.proofs.Numbers.{cell-is}
 use Rattle.base.proofs.Tabled.{getD-tab, is-tab}
 use Rattle.rules.specs.Bounds.{bare}
 use Rattle.rules.specs.Tests.{onBoard}
 use Rattle.rules.specs.Places.{extensionBy, newRows, newCols, copiedCell, copied}
+use Rattle.rules.specs.Fit.{lists}
 use Rattle.rules.specs.Board.{Panel, shapeOf, entryIn, Board, weightsOf, countsOf}
 use Rattle.rules.specs.Widening.{wider, widenedPieces, widenedWeights, widened}
 use Rattle.rules.specs.declared.World.{World}
 use Rattle.rules.specs.declared.Pads.{Pads}
 use Rattle.stand.specs.Runs.{wallOf}
-use Rattle.stand.proofs.Shared.{count-at}
-use Rattle.stand.proofs.Moved.{New, count-carried}
+use Rattle.rules.proofs.Said.{count-at}
+use Rattle.stand.proofs.Shared.{count-low}
+use Rattle.stand.proofs.Moved.{New, count-carried, lists-carried, lists-kept}
 use Rattle.stand.proofs.Widened.{embedded, GridsEmbed, pieces-long, embedded-in, old-spread, new-spread, spread-is, pieces-carried}
 use Rattle.stand.proofs.Walls.{lies, cell-in, place-back, wall-lies, entry-wider, wall-wider}
 
@@ -78,6 +83,39 @@ module _ (j : Panel) (p : Pads) (b : Board) where
       ∙ count-carried embeds (pieces-carried (j .rows) (j .cols) p (b .pieces)) (j .tiles) k whole
       ∙ sym (pick-yes _ _ _ whole)
       ∙ sym (count-at (shapeOf j) (j .tiles) (b .pieces) k long (cell-in j v on))
+
+  -- the list of a place of the old panel
+  module _ (grids : GridsEmbed (j .kind)) (long : length (b .pieces) ≡ j .rows * j .cols) (v : World) (on : onBoard (j .rows) (j .cols) v (j .offset) ≡ true) where
+    abbrev moved : List ℕ
+    moved = widenedPieces (j .rows) (j .cols) p (b .pieces)
+
+    pub widen-adds-none : (t : ℕ) → lists (shapeOf (wider j p)) (j .tiles) (widened j p b .pieces) (entryIn (wider j p) v) t ≡ true
+        → lists (shapeOf j) (j .tiles) (b .pieces) (entryIn j v) t ≡ true
+    unfolding widened
+    widen-adds-none t e =
+        lists-carried (grids (j .rows) (j .cols) p) (pieces-carried (j .rows) (j .cols) p (b .pieces)) long (pieces-long (j .rows) (j .cols) p (b .pieces))
+        (j .tiles) (entryIn j v) t (cell-in j v on)
+        (sym (ap (λ (k : ℕ). lists (shapeOf (wider j p)) (j .tiles) moved k t) (entry-wider j p v on)) ∙ e)
+
+    pub widen-keeps : ((q : ℕ) → q < 9 → shapeOf (wider j p) .kept (embedded (j .cols) p (entryIn j v)) q ≡ true → shapeOf j .kept (entryIn j v) q ≡ true)
+        → (t : ℕ) → lists (shapeOf (wider j p)) (j .tiles) (widened j p b .pieces) (entryIn (wider j p) v) t ≡ lists (shapeOf j) (j .tiles) (b .pieces) (entryIn j v) t
+    unfolding widened
+    widen-keeps none-new t =
+        same-test _ _ (widen-adds-none t)
+        (λ e.
+        ap (λ (k : ℕ). lists (shapeOf (wider j p)) (j .tiles) moved k t) (entry-wider j p v on)
+        ∙ lists-kept (grids (j .rows) (j .cols) p) (pieces-carried (j .rows) (j .cols) p (b .pieces)) long (pieces-long (j .rows) (j .cols) p (b .pieces))
+        (j .tiles) (entryIn j v) t (cell-in j v on) none-new e)
+
+    -- and the count of the region that starts there: it stays, or the region passed the edge and all tiles were counted
+    pub widen-raises-none : getD (widened j p b .counts) (entryIn (wider j p) v) 0 ≤ getD (countsOf (shapeOf j) (j .tiles) (b .pieces)) (entryIn j v) 0
+    unfolding widened
+    widen-raises-none =
+        by-test (shapeOf j .whole (entryIn j v))
+        (λ whole. rw (counts-kept grids long v on whole) (le-refl _))
+        (λ past.
+        rw (count-at (shapeOf j) (j .tiles) (b .pieces) (entryIn j v) long (cell-in j v on) ∙ pick-no _ _ _ past)
+        (count-low (shapeOf (wider j p)) (j .tiles) moved (entryIn (wider j p) v)))
 
 -- ---- four pads of 0
 

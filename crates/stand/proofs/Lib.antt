@@ -9,3 +9,4 @@ pub mod Plans
 pub mod Stands
 pub mod Order
 pub mod Never
+pub mod Choices

@@ -1,31 +1,42 @@
 -- A grid stands in a larger one: what the pieces say of a cell does not change when they are carried there.
 --     weight-carried    the weight of a cell
 --     count-carried     how many tiles fit a region that lies inside
--- Over any two shapes: each distance is kept, each cell of a region, and that it lies inside; a sum over the cells of the larger grid, to which its other cells
--- add nothing, is one over the cells of the smaller. Assumes nothing.
-use Prim.Native.Nat.{ℕ, _<_, _-_}
-use mathlib.Core.Path.{_≡_, _∙_, ap}
+--     lists-carried     a colour that is listed there was listed before; lists-kept: and the other way, where no window is kept that was skipped
+-- Over any two shapes: each distance is kept, each cell of a region, and that it lies inside; each kept window, and what it shows; a sum over
+-- the cells of the larger grid, to which its other cells add nothing, is one over the cells of the smaller. Assumes nothing.
+use Prim.Native.Nat.{ℕ, _<_, _≤_, _-_}
+use mathlib.Core.Path.{_≡_, sym, _∙_, ap}
 use mathlib.Core.Bool.{true, false}
-use mathlib.Core.Logic.{_≢_}
+use mathlib.Core.Logic.{_≢_, _⊎_, ⊎-elim}
 use mathlib.Core.List.{List}
-use lib.ListN.{getD}
+use native.Mathlib.Omega.{arith}
+use lib.ListN.{length, getD, List·getD-eq-default}
+use borrow.Author.Tests.{ltb-false}
 use Rattle.base.specs.Counting.{pick, sum}
 use Rattle.base.proofs.Bools.{pick-no}
 use Rattle.base.proofs.Counted.{sum-ext}
-use Rattle.rules.specs.Grid.{Shape, laidOn}
-use Rattle.rules.specs.Fit.{pattern, fitCount}
+use Rattle.base.proofs.Numbers.{lt-or-le}
+use Rattle.rules.specs.Grid.{Shape, laidOn, colourOn}
+use Rattle.rules.specs.Fit.{pattern, fitCount, lists}
 use Rattle.rules.specs.Board.{reach}
 use Rattle.rules.proofs.Fitting.{count-ext}
+use Rattle.rules.proofs.Meaning.{Agrees, Listed, lists-from, lists-to}
 
 -- cell k is none of the n cells that stand in the larger grid by e
 abbrev pub New : ℕ → (ℕ → ℕ) → ℕ → Type 0
 New n e k = (j : ℕ) → j < n → e j ≢ k
+
+-- what was one of the n cells stands where e says, and what was past the edge is none of them
+abbrev pub Stays : ℕ → (ℕ → ℕ) → ℕ → ℕ → Type 0
+Stays n e old new = ((old < n) × (new ≡ e old)) ⊎ ((n ≤ old) × New n e new)
 
 -- the n cells of g stand in the m cells of h by e
 pub record Embeds (g h : Shape) (n m : ℕ) (e : ℕ → ℕ) : Type 0 where
   pub apart : (j k : ℕ) → j < n → k < n → h .apart (e j) (e k) ≡ g .apart j k
   pub cell : (s i : ℕ) → i < 9 → g .whole s ≡ true → (g .cell s i < n) × (h .cell (e s) i ≡ e (g .cell s i))
   pub whole : (s : ℕ) → g .whole s ≡ true → h .whole (e s) ≡ true
+  pub kept : (k q : ℕ) → k < n → q < 9 → g .kept k q ≡ true → h .kept (e k) q ≡ true
+  pub shows : (k q i : ℕ) → k < n → q < 9 → i < 9 → g .kept k q ≡ true → Stays n e (g .cell (g .start k q) i) (h .cell (h .start (e k) q) i)
   pub total : (f : ℕ → ℕ) → ((k : ℕ) → k < m → New n e k → f k ≡ 0) → sum m f ≡ sum n (λ j. f (e j))
 
 -- the pieces p of the smaller grid stand as q in the larger one, on whose other cells no piece stands
@@ -46,3 +57,51 @@ module _ {g h : Shape} {n m : ℕ} {e : ℕ → ℕ} (stands : Embeds g h n m e)
       (λ i i<.
       let c = stands .cell s i i< whole in
       ap (λ (k : ℕ). getD q k 0 - 1) (c .1) ∙ ap (λ (x : ℕ). x - 1) (carried .at (g .cell s i) (c .0)))
+
+  -- the windows of a cell, which may pass the edge
+  module _ (old-long : length p ≡ n) (new-long : length q ≡ m) where
+    colour-carried : {old new : ℕ} → Stays n e old new → colourOn q new ≡ colourOn p old
+    colour-carried {old} {new} st =
+        ⊎-elim
+        (λ w. ap (colourOn q) (w .1) ∙ ap (λ (x : ℕ). x - 1) (carried .at old (w .0)))
+        (λ w. none (w .1) ∙ sym (ap (λ (x : ℕ). x - 1) (List·getD-eq-default p 0 (past (w .0)))))
+        st
+      where
+        past : n ≤ old → length p ≤ old
+        past h = omega (arith, old-long)
+
+        none : New n e new → colourOn q new ≡ 0
+        none fresh =
+            ⊎-elim
+            (λ (new< : new < m). omega (arith, ltb-false 1 (getD q new 0) (carried .off new new< fresh)))
+            (λ (far : m ≤ new). ap (λ (x : ℕ). x - 1) (List·getD-eq-default q 0 (omega (arith, new-long))))
+            (lt-or-le new m)
+
+    shown-carried : (k r i : ℕ) → k < n → r < 9 → i < 9 → g .kept k r ≡ true → pattern h q (h .start (e k) r) i ≡ pattern g p (g .start k r) i
+    shown-carried k r i k< r< i< kept = colour-carried (stands .shows k r i k< r< i< kept)
+
+    pub lists-carried : (tiles : List ℕ) (k t : ℕ) → k < n → lists h tiles q (e k) t ≡ true → lists g tiles p k t ≡ true
+    unfolding Listed Agrees
+    lists-carried tiles k t k< listed =
+        lists-to g tiles p k t
+        (λ r l kept.
+        let w = lists-from h tiles q (e k) t listed r l (stands .kept k r k< l kept) in (
+          w .0,
+          w .1,
+          (λ i m laid. let same = shown-carried k r i k< l m kept in w .2 i m (λ z. laid (sym same ∙ z)) ∙ same),
+          w .3,
+        ))
+
+    pub lists-kept : (tiles : List ℕ) (k t : ℕ) → k < n → ((r : ℕ) → r < 9 → h .kept (e k) r ≡ true → g .kept k r ≡ true)
+        → lists g tiles p k t ≡ true → lists h tiles q (e k) t ≡ true
+    unfolding Listed Agrees
+    lists-kept tiles k t k< none-new listed =
+        lists-to h tiles q (e k) t
+        (λ r l kept.
+        let old = none-new r l kept in
+        let w = lists-from g tiles p k t listed r l old in (
+          w .0,
+          w .1,
+          (λ i m laid. let same = shown-carried k r i k< l m old in w .2 i m (λ z. laid (same ∙ z)) ∙ sym same),
+          w .3,
+        ))

@@ -184,7 +184,7 @@ abbrev done : State → Act → State
 done s (call c) = record { panel = s .panel; board = changed (s .panel) (s .board) c }
 done s (widen count p lent) = record { panel = wider (s .panel) p; board = widened (s .panel) p (s .board) }
 
-acted-by : (s : State) (a : Act) → acted s a ≡ unlessRefused (refusalIn s a) (done s a) s
+pub acted-by : (s : State) (a : Act) → acted s a ≡ unlessRefused (refusalIn s a) (done s a) s
 unfolding afterWiden
 acted-by s (call c) =
     ap (on (s .panel)) (step-by (s .panel) (s .board) c)

@@ -78,14 +78,6 @@ module _ (g : Shape) where
   abbrev weightAt : ℕ → List ℕ → ℕ → ℕ
   weightAt n p i = 1 + sum n (term p i)
 
-  pub weights-long : (p : List ℕ) → length (weightsOf g p) ≡ length p
-  unfolding weightsOf
-  weights-long p = length-tab (length p) _
-
-  pub weight-at : {n : ℕ} (p : List ℕ) (k : ℕ) → length p ≡ n → k < n → getD (weightsOf g p) k 0 ≡ 1 + sum n (λ j. pick (laidOn p j) (reach g j k) 0)
-  unfolding weightsOf
-  weight-at {n} p k long k< = ap (λ (m : ℕ). getD (tab m (weightAt m p)) k 0) long ∙ getD-tab n (weightAt n p) k 0 k<
-
   pub lay-weights : (p : List ℕ) (k v : ℕ) → k < length p → laidOn p k ≡ false → 1 < v → raised g k (weightsOf g p) ≡ weightsOf g (set p k v)
   unfolding raised weightsOf
   lay-weights p k v k< off on =
@@ -139,19 +131,6 @@ module _ (g : Shape) where
           ∙ ap (weightsOf g) back)
 
   -- ---- counts
-
-  pub counts-long : (tiles p : List ℕ) → length (countsOf g tiles p) ≡ length p
-  unfolding countsOf
-  counts-long tiles p = length-tab (length p) _
-
-  pub count-at : {n : ℕ} (tiles p : List ℕ) (s : ℕ) → length p ≡ n → s < n
-      → getD (countsOf g tiles p) s 0 ≡ pick (g .whole s) (fitCount tiles (pattern g p s)) (tilesIn tiles)
-  unfolding countsOf
-  count-at {n} tiles p s long s< =
-      ap (λ (m : ℕ). getD (tab m counted) s 0) long ∙ getD-tab n counted s 0 s<
-    where
-      counted : ℕ → ℕ
-      counted i = pick (g .whole i) (fitCount tiles (pattern g p i)) (tilesIn tiles)
 
   module _ (sound : Sound g) (tiles : List ℕ) where
     -- recounting the near starts suffices

@@ -34,7 +34,8 @@ use Rattle.rules.specs.declared.Offset.{Offset}
 use Rattle.rules.specs.declared.Written.the-variants.{Done}
 use Rattle.rules.proofs.Answered.{was-written}
 use Rattle.stand.specs.Runs.{State, fresh, start, Call, Act, call, widen, refusalIn, acted, run, acceptedIn, Plan, says, told, piecesOn, stateOf, withinOne, exactlyTwo}
-use Rattle.stand.proofs.Shared.{SoundKind, weight-at, count-at}
+use Rattle.rules.proofs.Said.{weight-at, count-at}
+use Rattle.stand.proofs.Shared.{SoundKind}
 use Rattle.stand.proofs.Widened.{GridsEmbed}
 use Rattle.stand.proofs.Flat.{flat-sound, flat-embeds}
 use Rattle.stand.proofs.Calls.{Good, fresh-of}
@@ -46,7 +47,7 @@ Widenable kind [] = Unit
 Widenable kind (call c ∷ acts) = Widenable kind acts
 Widenable kind (widen count p lent ∷ acts) = GridsEmbed kind × Widenable kind acts
 
-asked : (kind : Kind) (a : Act) (acts : List Act) → Widenable kind (a ∷ acts) → Asked kind a × Widenable kind acts
+pub asked : (kind : Kind) (a : Act) (acts : List Act) → Widenable kind (a ∷ acts) → Asked kind a × Widenable kind acts
 asked kind (call c) acts may = (tt, may)
 asked kind (widen count p lent) acts may = may
 

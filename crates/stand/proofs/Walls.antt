@@ -70,6 +70,15 @@ module _ (j : Panel) where
   unfolding cellOf
   cell-in w on = cell-lt (index-clip (j .rows) (rowZ w) (row-on w on)) (col-low w on)
 
+  -- the row and the column of its cell
+  pub entry-row : (w : World) → lies j w ≡ true → entryIn j w / j .cols ≡ cellOf w (j .offset) .0
+  unfolding cellOf
+  entry-row w on = row-of (clip (rowZ w)) (col-low w on)
+
+  pub entry-col : (w : World) → lies j w ≡ true → entryIn j w % j .cols ≡ cellOf w (j .offset) .1
+  unfolding cellOf
+  entry-col w on = col-of (clip (rowZ w)) (col-low w on)
+
   -- an index, less its offset, is the coordinate
   back : (n : ℕ) (x o : ℤ) → indexBelow n (x +ℤ o) ≡ true → pos (clip (x +ℤ o)) -ℤ o ≡ x
   back n x o e = ap (λ (z : ℤ). z -ℤ o) (sym (index-pos n (x +ℤ o) e)) ∙ +ℤ-negℤ-cancel x o

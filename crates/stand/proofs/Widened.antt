@@ -24,7 +24,8 @@ use Rattle.rules.specs.Board.{Panel, shapeOf, weightsOf, boardOf}
 use Rattle.rules.specs.Widening.{wider, widenedPieces, widenedWeights, widened}
 use Rattle.rules.specs.declared.Pads.{Pads}
 use Rattle.rules.proofs.Copying.{old-at, old-cell, new-cell}
-use Rattle.stand.proofs.Shared.{both, weights-long, weight-at}
+use Rattle.rules.proofs.Said.{weights-long, weight-at}
+use Rattle.stand.proofs.Shared.{both}
 use Rattle.stand.proofs.Moved.{New, Embeds, Carried, weight-carried}
 
 -- where cell k of a panel of so many columns stands in the wider one

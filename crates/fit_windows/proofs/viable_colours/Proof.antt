@@ -5,7 +5,8 @@ use native.Mathlib.Omega.{arith}
 use Rattle.rules.specs.Grid.{cellAt, entryOf, flat}
 use Rattle.rules.specs.Sets.{bitsOf}
 use Rattle.rules.specs.Fit.{leftAfter}
-use Rattle.fit_windows.proofs.Lists.{few-lt, order-lt, left-first, left-turn, left-none}
+use Rattle.rules.proofs.Meaning.{order-lt}
+use Rattle.fit_windows.proofs.Lists.{few-lt, left-first, left-turn, left-none}
 use Rattle.fit_windows.proofs.Accepted.{ready-coloured}
 use borrow.Author.Needs.{needs}
 use Rattle.fit_windows.proofs.viable_colours.Statement.{statement}
