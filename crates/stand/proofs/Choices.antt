@@ -40,7 +40,7 @@ use Rattle.rules.specs.declared.Offset.{Offset}
 use Rattle.rules.specs.declared.Pads.{Pads}
 use Rattle.rules.proofs.Choices.{lay-adds-none, lift-removes-none, lay-raises-none, lift-lowers-none, lay-own}
 use Rattle.stand.specs.Runs.{State, start, lay, lift, Act, call, widen, refusalIn, acted, run, acceptedIn}
-use Rattle.stand.specs.Choices.{offered, countAt, Counted, isLift, AllLifts}
+use Rattle.stand.specs.Choices.{onList, countAt, Counted, isLift, AllLifts}
 use Rattle.stand.proofs.Shared.{Sound, SoundKind, recount}
 use Rattle.stand.proofs.Flat.{flat-sound, flat-embeds, flat-seen, flat-kept}
 use Rattle.stand.proofs.Walls.{lies, cell-in, entry-row, entry-col, lies-wider}
@@ -77,25 +77,25 @@ lies-still s (widen count p lent) v on =
 
 -- an act that is no accepted lift adds no colour
 act-adds-none : (s : State) (a : Act) → Asked (s .panel .kind) a → (refusalIn s a ≡ 0 → isLift a ≡ false) → (v : World) → lies (s .panel) v ≡ true → (t : ℕ)
-    → offered (acted s a) v t ≡ true → offered s v t ≡ true
+    → onList (acted s a) v t ≡ true → onList s v t ≡ true
 act-adds-none s (call (lay count w colour)) ask none v on t e = lay-adds-none (s .panel) count (s .board) w colour (entryIn (s .panel) v) t e
 act-adds-none s (call (lift count w)) ask none v on t e =
-    sym (ap (λ (z : State). offered z v t) (same-state s (call (lift count w)) (λ z. never true refl (none z)))) ∙ e
+    sym (ap (λ (z : State). onList z v t) (same-state s (call (lift count w)) (λ z. never true refl (none z)))) ∙ e
 act-adds-none s (widen count p lent) grids none v on t e =
     by-test (eqb (refusalIn s (widen count p lent)) 0)
     (λ z.
     let accepted = eqb-true _ 0 z in
     widen-adds-none (s .panel) p (s .board) grids (lengths (s .panel) count (s .board) p lent accepted) v on t
-    (sym (ap (λ (x : State). offered x v t) (wider-state s count p lent accepted)) ∙ e))
-    (λ z. sym (ap (λ (x : State). offered x v t) (same-state s (widen count p lent) (eqb-false _ 0 z))) ∙ e)
+    (sym (ap (λ (x : State). onList x v t) (wider-state s count p lent accepted)) ∙ e))
+    (λ z. sym (ap (λ (x : State). onList x v t) (same-state s (widen count p lent) (eqb-false _ 0 z))) ∙ e)
 
 -- an act that is no accepted lay or widening removes none
-act-removes-none : (s : State) (a : Act) → (refusalIn s a ≡ 0 → isLift a ≡ true) → (v : World) (t : ℕ) → offered s v t ≡ true → offered (acted s a) v t ≡ true
+act-removes-none : (s : State) (a : Act) → (refusalIn s a ≡ 0 → isLift a ≡ true) → (v : World) (t : ℕ) → onList s v t ≡ true → onList (acted s a) v t ≡ true
 act-removes-none s (call (lay count w colour)) all v t e =
-    ap (λ (z : State). offered z v t) (same-state s (call (lay count w colour)) (λ z. never false (all z) refl)) ∙ e
+    ap (λ (z : State). onList z v t) (same-state s (call (lay count w colour)) (λ z. never false (all z) refl)) ∙ e
 act-removes-none s (call (lift count w)) all v t e = lift-removes-none (s .panel) count (s .board) w (entryIn (s .panel) v) t e
 act-removes-none s (widen count p lent) all v t e =
-    ap (λ (z : State). offered z v t) (same-state s (widen count p lent) (λ z. never false (all z) refl)) ∙ e
+    ap (λ (z : State). onList z v t) (same-state s (widen count p lent) (λ z. never false (all z) refl)) ∙ e
 
 -- ---- runs
 
@@ -106,7 +106,7 @@ first-of (suc n) are a later h = ((λ (e : _≡_ {A = ℕ} (suc n) 0). absurd (o
 
 -- "while only lays follow, a list never grows": and with widenings, for places that lie on the panel
 pub never-grows : (s : State) (acts : List Act) → Widenable (s .panel .kind) acts → AllLifts false (acceptedIn s acts)
-    → (v : World) → lies (s .panel) v ≡ true → (t : ℕ) → offered (run s acts) v t ≡ true → offered s v t ≡ true
+    → (v : World) → lies (s .panel) v ≡ true → (t : ℕ) → onList (run s acts) v t ≡ true → onList s v t ≡ true
 unfolding run fold acceptedIn
 never-grows s [] may none v on t e = e
 never-grows s (a ∷ acts) may none v on t e =
@@ -115,7 +115,7 @@ never-grows s (a ∷ acts) may none v on t e =
     act-adds-none s a (h .0) (n .0) v on t
     (never-grows (acted s a) acts (subst (λ (k : Kind). Widenable k acts) (sym (kind-still s a)) (h .1)) (n .1) v (lies-still s a v on) t e)
 
-pub never-shrinks : (s : State) (acts : List Act) → AllLifts true (acceptedIn s acts) → (v : World) (t : ℕ) → offered s v t ≡ true → offered (run s acts) v t ≡ true
+pub never-shrinks : (s : State) (acts : List Act) → AllLifts true (acceptedIn s acts) → (v : World) (t : ℕ) → onList s v t ≡ true → onList (run s acts) v t ≡ true
 unfolding run fold acceptedIn
 never-shrinks s [] all v t e = e
 never-shrinks s (a ∷ acts) all v t e =
@@ -202,7 +202,7 @@ run-counted j sound acts may = ap (λ (b : Board). b .counts) (says-all j sound 
 
 module _ (s : State) (level : s .panel .kind ≡ flat) where
   pub flat-never-grows : (acts : List Act) → AllLifts false (acceptedIn s acts) → (v : World) → lies (s .panel) v ≡ true → (t : ℕ)
-      → offered (run s acts) v t ≡ true → offered s v t ≡ true
+      → onList (run s acts) v t ≡ true → onList s v t ≡ true
   flat-never-grows acts = never-grows s acts (subst (λ (k : Kind). Widenable k acts) (sym level) (flat-may acts))
 
   pub flat-never-rises : (acts : List Act) → Counted s → AllLifts false (acceptedIn s acts) → (v : World) → lies (s .panel) v ≡ true
@@ -222,7 +222,7 @@ module _ (rows cols : ℕ) (tiles : List ℕ) (offset : Offset) (b : Board) wher
 
   -- what is left of a cell's own list after a lay
   pub flat-own : (count : ℕ) (place : World) (colour : ℕ) → refusal (layChecks this count b place colour) ≡ 0 → (t : ℕ)
-      → offered (acted lent-board (call (lay count place colour))) place t ≡ (eqb t colour && offered lent-board place t)
+      → onList (acted lent-board (call (lay count place colour))) place t ≡ (eqb t colour && onList lent-board place t)
   unfolding hasLength
   flat-own count place colour accepted =
       let h = all-pass (layChecks this count b place colour) refl accepted in
@@ -233,18 +233,18 @@ module _ (rows cols : ℕ) (tiles : List ℕ) (offset : Offset) (b : Board) wher
   -- a widening keeps the list of a place that has two rows before it or gets none more, and so with columns
   pub flat-keeps : (count : ℕ) (p : Pads) (lent : Board) (v : World) → lies this v ≡ true
       → (p .left ≡ 0) ⊎ (2 ≤ cellOf v offset .0) → (p .top ≡ 0) ⊎ (2 ≤ cellOf v offset .1) → (t : ℕ)
-      → offered (acted lent-board (widen count p lent)) v t ≡ offered lent-board v t
+      → onList (acted lent-board (widen count p lent)) v t ≡ onList lent-board v t
   flat-keeps count p lent v on above before t =
       by-test (eqb (refusalIn lent-board (widen count p lent)) 0)
       (λ z.
       let accepted = eqb-true _ 0 z in
-      ap (λ (x : State). offered x v t) (wider-state lent-board count p lent accepted)
+      ap (λ (x : State). onList x v t) (wider-state lent-board count p lent accepted)
       ∙ widen-keeps this p b flat-embeds (lengths this count b p lent accepted) v on
       (flat-kept rows cols p (entryIn this v) (cell-in this v on)
       (subst (λ (r : ℕ). (p .left ≡ 0) ⊎ (2 ≤ r)) (sym (entry-row this v on)) above)
       (subst (λ (c : ℕ). (p .top ≡ 0) ⊎ (2 ≤ c)) (sym (entry-col this v on)) before))
       t)
-      (λ z. ap (λ (x : State). offered x v t) (same-state lent-board (widen count p lent) (eqb-false _ 0 z)))
+      (λ z. ap (λ (x : State). onList x v t) (same-state lent-board (widen count p lent) (eqb-false _ 0 z)))
 
 -- ---- lists and counts that do become less
 
@@ -260,8 +260,8 @@ abbrev rowBefore : Act
 rowBefore = widen 2 (record { left = 1; right = 0; top = 0; bottom = 0 }) (board (replicate 2 0) (replicate 2 0) (replicate 2 0))
 
 pub can-empty : (refusalIn (start single) rowBefore ≡ 0)
-    × (coloursOf 2 (offered (start single) corner) ≡ 1 ∷ [])
-    × (coloursOf 2 (offered (acted (start single) rowBefore) corner) ≡ [])
+    × (coloursOf 2 (onList (start single) corner) ≡ 1 ∷ [])
+    × (coloursOf 2 (onList (acted (start single) rowBefore) corner) ≡ [])
 unfolding coloursOf those refusal within withinZ every some tab freshBoard boardSides hasLength tileNumberFits wholeTiles colourCount noneAbove piecesStored offsetFits extensionBy copied copiedCell widenedPieces widened afterWiden leftAfter allows hasFitting fitsTile agrees flat entryOrPast cellOf
 can-empty = (refl, refl, refl)
 

@@ -10,8 +10,8 @@ use Rattle.rules.specs.declared.World.{World}
 use Rattle.stand.specs.Runs.{State, lay, lift, Act, call, widen}
 
 -- colour t is on the list of the cell at a place
-abbrev pub offered : State → World → ℕ → Bool
-offered s place t = lists (shapeOf (s .panel)) (s .panel .tiles) (s .board .pieces) (entryIn (s .panel) place) t
+abbrev pub onList : State → World → ℕ → Bool
+onList s place t = lists (shapeOf (s .panel)) (s .panel .tiles) (s .board .pieces) (entryIn (s .panel) place) t
 
 -- the count of the region that starts at a place
 abbrev pub countAt : State → World → ℕ
