@@ -1,42 +1,43 @@
 -- Document 02, request 9, in the answers of the listing call: laying never opens a choice.
 --     lay-answers     a colour that a listing answers after a lay, the same listing answers before it
 --     lift-answers    a colour that a listing answers before a lift, the same listing answers after it
+--     can-shorten     and an answer that a lay shortens
 -- Both say too that the other listing is not refused. By one piece less: the checks pass as they did, and no colour leaves the list.
 -- Assumes nothing.
 use Prim.Native.Nat.{ℕ, zero, suc, _+_, _*_, _<_, _≤_}
 use mathlib.Core.Path.{_≡_, refl, sym, _∙_, ap, subst}
 use mathlib.Core.Bool.{Bool, true, false}
 use mathlib.Core.Logic.{⊎-elim}
-use mathlib.Core.List.{List}
+use mathlib.Core.List.{List, [], _∷_}
 use native.Mathlib.Omega.{arith}
 use lib.Dec.{eqb}
+use lib.IntN.{pos}
 use lib.ListN.{length, getD, set, length-set}
 use lib.Seq.{set-set, set-getD}
 use borrow.Author.Tests.{ltb-false, eqb-true, not-true}
+use Rattle.base.specs.Counting.{every, some, tally, within}
+use Rattle.base.specs.Tables.{tab}
 use Rattle.base.specs.Refusal.{refusal}
+use Rattle.base.specs.Whole.{withinZ}
 use Rattle.base.proofs.Bools.{never}
 use Rattle.base.proofs.Counted.{every-at}
 use Rattle.base.proofs.Numbers.{lt-or-le, within-low}
 use Rattle.base.proofs.Chain.{all-pass, none-fails, either}
 use Rattle.rules.specs.Bounds.{bare}
-use Rattle.rules.specs.Tests.{hasLength, piecesStored, pieceStored}
+use Rattle.rules.specs.Tests.{boardSides, hasLength, tileNumberFits, wholeTiles, colourCount, noneAbove, piecesStored, pieceStored, onWall, offsetFits, onBoard}
 use Rattle.rules.specs.Answers.{listingAnswer}
 use Rattle.rules.specs.Sets.{has, bitsOf}
-use Rattle.rules.specs.Grid.{laidOn}
-use Rattle.rules.specs.Fit.{lists, listingChecks, foundAt, listing}
-use Rattle.rules.specs.Board.{Panel, Board, shapeOf, entryIn, laid, lifted, layChecks, liftChecks, afterLay, afterLift}
+use Rattle.rules.specs.Grid.{entryOrPast, flat, laidOn}
+use Rattle.rules.specs.Places.{cellOf}
+use Rattle.rules.specs.Fit.{agrees, fitsTile, fitCount, hasFitting, allows, leftAfter, lists, listingChecks, foundAt, listing}
+use Rattle.rules.specs.Board.{Panel, Board, shapeOf, entryIn, recounted, laid, lifted, freshBoard, layChecks, liftChecks, afterLay, afterLift}
+use Rattle.rules.specs.Promises.{panel}
 use Rattle.rules.specs.declared.World.{World}
 use Rattle.rules.specs.declared.TileBitset.{TileBitset}
-use Rattle.rules.specs.declared.Listing.{Listing}
-use Rattle.rules.specs.declared.Listing.the-variants as Listing·
+use Rattle.fit.specs.Choices.{answers, asked}
 use Rattle.rules.proofs.Fewer.{lists-fewer, under-lift, put-stored}
 use Rattle.places.proofs.Indices.{entry-below}
 use Rattle.bitset_colours.proofs.Digits.{bits-lt, bits-has, has-zero, has-past}
-
--- colour t is among those that a listing answers; a refused one answers none
-abbrev pub answers : Listing → ℕ → Bool
-answers (Listing·.Colours s) t = has (s .bits) t
-answers (Listing·.Refused n) t = false
 
 -- an answer with a colour is no refusal
 told : (n : ℕ) (s : TileBitset) (t : ℕ) → answers (listingAnswer n s) t ≡ true → (n ≡ 0) × (has (s .bits) t ≡ true)
@@ -54,11 +55,8 @@ more-has n f g (suc k) h e =
 
 -- a listing on any board of the panel: the number of colours that it names, and its place
 module _ (j : Panel) (n : ℕ) (v : World) where
-  abbrev pub asked : List ℕ → Listing
-  asked p = listing (j .kind) p (j .rows) (j .cols) (j .tiles) n v (j .offset)
-
   -- one piece less
-  one-less : (p : List ℕ) (k t : ℕ) → answers (asked p) t ≡ true → answers (asked (set p k bare)) t ≡ true
+  one-less : (p : List ℕ) (k t : ℕ) → answers (asked j n v p) t ≡ true → answers (asked j n v (set p k bare)) t ≡ true
   unfolding listing hasLength
   one-less p k t e =
       let w = told (refusal (listingChecks p (j .rows) (j .cols) (j .tiles) n v (j .offset))) _ t e in
@@ -89,17 +87,41 @@ module _ (j : Panel) (n : ℕ) (v : World) where
         let off : laidOn (b .pieces) here ≡ false = not-true _ (search) in
         omega (arith, within-low 1 (count + 1) (getD (b .pieces) here 0) stored, ltb-false 1 (getD (b .pieces) here 0) off)
 
-    pub lift-answers : (t : ℕ) → answers (asked (b .pieces)) t ≡ true → answers (asked (afterLift j count b place .pieces)) t ≡ true
+    pub lift-answers : (t : ℕ) → answers (asked j n v (b .pieces)) t ≡ true → answers (asked j n v (afterLift j count b place .pieces)) t ≡ true
     unfolding afterLift lifted
     lift-answers t e =
-        either (λ (c : Board). answers (asked (c .pieces)) t ≡ true) (refusal (liftChecks j count b place)) (λ accepted. one-less (b .pieces) here t e) e
+        either (λ (c : Board). answers (asked j n v (c .pieces)) t ≡ true) (refusal (liftChecks j count b place)) (λ accepted. one-less (b .pieces) here t e) e
 
-    pub lay-answers : (colour t : ℕ) → answers (asked (afterLay j count b place colour .pieces)) t ≡ true → answers (asked (b .pieces)) t ≡ true
+    pub lay-answers : (colour t : ℕ) → answers (asked j n v (afterLay j count b place colour .pieces)) t ≡ true → answers (asked j n v (b .pieces)) t ≡ true
     unfolding afterLay laid
     lay-answers colour t =
-        either (λ (c : Board). answers (asked (c .pieces)) t ≡ true → answers (asked (b .pieces)) t ≡ true) (refusal (layChecks j count b place colour))
+        either (λ (c : Board). answers (asked j n v (c .pieces)) t ≡ true → answers (asked j n v (b .pieces)) t ≡ true) (refusal (layChecks j count b place colour))
         (λ accepted e.
-        subst (λ (p : List ℕ). answers (asked p) t ≡ true)
+        subst (λ (p : List ℕ). answers (asked j n v p) t ≡ true)
         (set-set (b .pieces) here (colour + 1) bare ∙ ap (set (b .pieces) here) (sym (bare-there colour accepted)) ∙ set-getD (b .pieces) here 0)
         (one-less (set (b .pieces) here (colour + 1)) here t e))
         (λ e. e)
+
+-- ---- an answer that gets shorter
+
+-- the two chequer tiles on a board of three rows and columns
+abbrev chequer : Panel
+chequer = panel 3 3 (1 ∷ 2 ∷ 1 ∷ 2 ∷ 1 ∷ 2 ∷ 1 ∷ 2 ∷ 1 ∷ 2 ∷ 1 ∷ 2 ∷ 1 ∷ 2 ∷ 1 ∷ 2 ∷ 1 ∷ 2 ∷ []) (record { 0 = pos 0; 1 = pos 0 })
+
+abbrev place : ℕ → ℕ → World
+place r c = record { 0 = pos r; 1 = pos c }
+
+abbrev bareBoard : Board
+bareBoard = freshBoard 9 2
+
+abbrev centre : Board
+centre = afterLay chequer 2 bareBoard (place 1 1) 1
+
+-- in the corner 1 and 2 are answered, and with 1 laid in the middle 1 alone; a listing that names one colour is refused and answers none
+pub can-shorten : (answers (asked chequer 2 (place 0 0) (bareBoard .pieces)) 1 ≡ true)
+    × (answers (asked chequer 2 (place 0 0) (bareBoard .pieces)) 2 ≡ true)
+    × (answers (asked chequer 2 (place 0 0) (centre .pieces)) 1 ≡ true)
+    × (answers (asked chequer 2 (place 0 0) (centre .pieces)) 2 ≡ false)
+    × (answers (asked chequer 1 (place 0 0) (bareBoard .pieces)) 1 ≡ false)
+unfolding listing refusal within withinZ every some tally tab freshBoard boardSides hasLength tileNumberFits wholeTiles colourCount noneAbove piecesStored onWall offsetFits onBoard afterLay laid recounted fitCount fitsTile agrees leftAfter allows hasFitting flat entryOrPast cellOf has bitsOf
+can-shorten = (refl, refl, refl, refl, refl)

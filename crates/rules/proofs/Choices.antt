@@ -4,8 +4,8 @@
 --     lay-raises-none, lift-lowers-none   a lay never raises a count, a lift never lowers one, where the counts before are what the pieces say
 --     lay-own         after an accepted lay the cell's own list is the colour laid, if it was listed, and else empty
 --     given-back      an accepted lift of the piece just laid gives back every list
---     rises-without, falls-without   the smallest boards that show what the condition on the counts is for
--- All of it follows from one fact, that fewer tiles fit where more pieces lie (Fewer). Assumes nothing.
+--     rises-without, falls-without   boards of the fewest cells, tiles and pieces that show what the condition on the counts is for
+-- What never grows, rises or falls follows from one fact, that fewer tiles fit where more pieces lie (Fewer). Assumes nothing.
 use Prim.Native.Nat.{ℕ, _+_, _-_, _<_, _≤_}
 use mathlib.Core.Path.{_≡_, refl, sym, _∙_, ap, subst}
 use mathlib.Core.Bool.{Bool, true, false, _&&_}

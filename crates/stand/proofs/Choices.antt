@@ -2,7 +2,7 @@
 --     never-grows      while no lift is accepted, no list gains a colour: from any board, widenings and refused calls included
 --     never-shrinks    while only lifts are accepted, no list loses one
 --     never-rises, never-falls    the same of the counts, from any board whose counts are what its pieces say
---     run-counted      as they are on any board that a run from a fresh one leaves
+--     run-counted, widened-counted      as they are on any board that a run from a fresh one leaves, and that a widening leaves
 --     flat-never-grows, flat-never-rises, flat-never-falls    for flat boards, with nothing asked of the grid
 --     flat-own         after an accepted lay, the cell's own list is the colour laid, if it was listed, and else empty
 --     flat-keeps       a widening keeps the list of a place, if it adds no row before or two rows lie before the place, and likewise for columns
@@ -42,12 +42,13 @@ use Rattle.rules.proofs.Choices.{lay-adds-none, lift-removes-none, lay-raises-n
 use Rattle.stand.specs.Runs.{State, start, lay, lift, Act, call, widen, refusalIn, acted, run, acceptedIn}
 use Rattle.stand.specs.Choices.{onList, countAt, Counted, isLift, AllLifts}
 use Rattle.stand.proofs.Shared.{Sound, SoundKind, recount}
-use Rattle.stand.proofs.Flat.{flat-sound, flat-embeds, flat-seen, flat-kept}
+use Rattle.stand.proofs.Widened.{GridsEmbed, GridsShow}
+use Rattle.stand.proofs.Flat.{flat-sound, flat-windows, flat-seen, flat-kept}
 use Rattle.stand.proofs.Walls.{lies, cell-in, entry-row, entry-col, lies-wider}
 use Rattle.stand.proofs.Kept.{widen-adds-none, widen-keeps, widen-raises-none}
 use Rattle.stand.proofs.Calls.{accepts}
 use Rattle.stand.proofs.Plans.{Asked, acted-by}
-use Rattle.stand.proofs.Stands.{Widenable, asked, flat-may, says-all}
+use Rattle.stand.proofs.Stands.{WhereWidened, Widenable, asked, all-may, flat-may, says-all}
 
 -- ---- one act
 
@@ -76,16 +77,16 @@ lies-still s (widen count p lent) v on =
     either (λ (z : State). lies (z .panel) v ≡ true) (refusalIn s (widen count p lent)) (λ e. lies-wider (s .panel) p v on) on
 
 -- an act that is no accepted lift adds no colour
-act-adds-none : (s : State) (a : Act) → Asked (s .panel .kind) a → (refusalIn s a ≡ 0 → isLift a ≡ false) → (v : World) → lies (s .panel) v ≡ true → (t : ℕ)
+act-adds-none : (s : State) (a : Act) → Asked (GridsShow (s .panel .kind)) a → (refusalIn s a ≡ 0 → isLift a ≡ false) → (v : World) → lies (s .panel) v ≡ true → (t : ℕ)
     → onList (acted s a) v t ≡ true → onList s v t ≡ true
 act-adds-none s (call (lay count w colour)) ask none v on t e = lay-adds-none (s .panel) count (s .board) w colour (entryIn (s .panel) v) t e
 act-adds-none s (call (lift count w)) ask none v on t e =
     sym (ap (λ (z : State). onList z v t) (same-state s (call (lift count w)) (λ z. never true refl (none z)))) ∙ e
-act-adds-none s (widen count p lent) grids none v on t e =
+act-adds-none s (widen count p lent) shown none v on t e =
     by-test (eqb (refusalIn s (widen count p lent)) 0)
     (λ z.
     let accepted = eqb-true _ 0 z in
-    widen-adds-none (s .panel) p (s .board) grids (lengths (s .panel) count (s .board) p lent accepted) v on t
+    widen-adds-none (s .panel) p (s .board) (lengths (s .panel) count (s .board) p lent accepted) v on shown t
     (sym (ap (λ (x : State). onList x v t) (wider-state s count p lent accepted)) ∙ e))
     (λ z. sym (ap (λ (x : State). onList x v t) (same-state s (widen count p lent) (eqb-false _ 0 z))) ∙ e)
 
@@ -105,15 +106,15 @@ first-of zero are a later h = ((λ e. h .0), h .1)
 first-of (suc n) are a later h = ((λ (e : _≡_ {A = ℕ} (suc n) 0). absurd (omega arith)), h)
 
 -- "while only lays follow, a list never grows": and with widenings, for places that lie on the panel
-pub never-grows : (s : State) (acts : List Act) → Widenable (s .panel .kind) acts → AllLifts false (acceptedIn s acts)
+pub never-grows : (s : State) (acts : List Act) → WhereWidened (GridsShow (s .panel .kind)) acts → AllLifts false (acceptedIn s acts)
     → (v : World) → lies (s .panel) v ≡ true → (t : ℕ) → onList (run s acts) v t ≡ true → onList s v t ≡ true
 unfolding run fold acceptedIn
 never-grows s [] may none v on t e = e
 never-grows s (a ∷ acts) may none v on t e =
-    let h = asked (s .panel .kind) a acts may in
+    let h = asked (GridsShow (s .panel .kind)) a acts may in
     let n = first-of (refusalIn s a) false a (acceptedIn (acted s a) acts) none in
     act-adds-none s a (h .0) (n .0) v on t
-    (never-grows (acted s a) acts (subst (λ (k : Kind). Widenable k acts) (sym (kind-still s a)) (h .1)) (n .1) v (lies-still s a v on) t e)
+    (never-grows (acted s a) acts (subst (λ (k : Kind). WhereWidened (GridsShow k) acts) (sym (kind-still s a)) (h .1)) (n .1) v (lies-still s a v on) t e)
 
 pub never-shrinks : (s : State) (acts : List Act) → AllLifts true (acceptedIn s acts) → (v : World) (t : ℕ) → onList s v t ≡ true → onList (run s acts) v t ≡ true
 unfolding run fold acceptedIn
@@ -128,9 +129,14 @@ recount-said : (j : Panel) (b : Board) (k v : ℕ) → Sound (shapeOf j) → b .
     → recounted (shapeOf j) (j .tiles) (set (b .pieces) k v) k (b .counts) ≡ countsOf (shapeOf j) (j .tiles) (set (b .pieces) k v)
 recount-said j b k v sound said = ap (recounted (shapeOf j) (j .tiles) (set (b .pieces) k v) k) said ∙ recount (shapeOf j) sound (j .tiles) (b .pieces) k v
 
--- an act leaves such counts where it finds them, and a widening always does
+-- an accepted widening works all counts out, whatever they were
+pub widened-counted : (s : State) (count : ℕ) (p : Pads) (lent : Board) → refusalIn s (widen count p lent) ≡ 0 → Counted (acted s (widen count p lent))
+unfolding widened
+widened-counted s count p lent accepted = subst Counted (sym (wider-state s count p lent accepted)) refl
+
+-- an act leaves such counts where it finds them
 counted-still : (s : State) (a : Act) → SoundKind (s .panel .kind) → Counted s → Counted (acted s a)
-unfolding afterLay afterLift laid lifted widened
+unfolding afterLay afterLift laid lifted
 counted-still s (call (lay count w colour)) sound said =
     either (λ (c : Board). c .counts ≡ countsOf (shapeOf (s .panel)) (s .panel .tiles) (c .pieces)) (refusalIn s (call (lay count w colour)))
     (λ e. recount-said (s .panel) (s .board) (entryIn (s .panel) w) (colour + 1) (sound _ _) said)
@@ -141,7 +147,7 @@ counted-still s (call (lift count w)) sound said =
     said
 counted-still s (widen count p lent) sound said =
     by-test (eqb (refusalIn s (widen count p lent)) 0)
-    (λ z. subst Counted (sym (wider-state s count p lent (eqb-true _ 0 z))) refl)
+    (λ z. widened-counted s count p lent (eqb-true _ 0 z))
     (λ z. subst Counted (sym (same-state s (widen count p lent) (eqb-false _ 0 z))) said)
 
 -- one state is one count
@@ -149,7 +155,7 @@ no-more : {x s : State} (v : World) → x ≡ s → countAt x v ≤ countAt s v
 no-more {s = s} v e = subst (λ (z : State). countAt z v ≤ countAt s v) (sym e) (le-refl (countAt s v))
 
 -- an act that is no accepted lift raises no count
-act-raises-none : (s : State) (a : Act) → Counted s → Asked (s .panel .kind) a → (refusalIn s a ≡ 0 → isLift a ≡ false) → (v : World)
+act-raises-none : (s : State) (a : Act) → Counted s → Asked (GridsEmbed (s .panel .kind)) a → (refusalIn s a ≡ 0 → isLift a ≡ false) → (v : World)
     → lies (s .panel) v ≡ true → countAt (acted s a) v ≤ countAt s v
 act-raises-none s (call (lay count w colour)) said ask none v on = lay-raises-none (s .panel) count (s .board) w said (entryIn (s .panel) v) colour
 act-raises-none s (call (lift count w)) said ask none v on = no-more v (same-state s (call (lift count w)) (λ z. never true refl (none z)))
@@ -159,7 +165,7 @@ act-raises-none s (widen count p lent) said grids none v on =
     let accepted = eqb-true _ 0 z in
     subst (λ (x : State). countAt x v ≤ countAt s v) (sym (wider-state s count p lent accepted))
     (subst (λ (l : List ℕ). getD (widened (s .panel) p (s .board) .counts) (entryIn (wider (s .panel) p) v) 0 ≤ getD l (entryIn (s .panel) v) 0) (sym said)
-    (widen-raises-none (s .panel) p (s .board) grids (lengths (s .panel) count (s .board) p lent accepted) v on)))
+    (widen-raises-none (s .panel) p (s .board) (lengths (s .panel) count (s .board) p lent accepted) v on grids)))
     (λ z. no-more v (same-state s (widen count p lent) (eqb-false _ 0 z)))
 
 -- and one that is no accepted lay or widening lowers none
@@ -174,7 +180,7 @@ pub never-rises : (s : State) (acts : List Act) → SoundKind (s .panel .kind) �
 unfolding run fold acceptedIn
 never-rises s [] sound may said none v on = le-refl _
 never-rises s (a ∷ acts) sound may said none v on =
-    let h = asked (s .panel .kind) a acts may in
+    let h = asked (GridsEmbed (s .panel .kind)) a acts may in
     let n = first-of (refusalIn s a) false a (acceptedIn (acted s a) acts) none in
     le-trans
     (never-rises (acted s a) acts
@@ -203,7 +209,7 @@ run-counted j sound acts may = ap (λ (b : Board). b .counts) (says-all j sound 
 module _ (s : State) (level : s .panel .kind ≡ flat) where
   pub flat-never-grows : (acts : List Act) → AllLifts false (acceptedIn s acts) → (v : World) → lies (s .panel) v ≡ true → (t : ℕ)
       → onList (run s acts) v t ≡ true → onList s v t ≡ true
-  flat-never-grows acts = never-grows s acts (subst (λ (k : Kind). Widenable k acts) (sym level) (flat-may acts))
+  flat-never-grows acts = never-grows s acts (all-may _ (subst GridsShow (sym level) flat-windows) acts)
 
   pub flat-never-rises : (acts : List Act) → Counted s → AllLifts false (acceptedIn s acts) → (v : World) → lies (s .panel) v ≡ true
       → countAt (run s acts) v ≤ countAt s v
@@ -239,7 +245,7 @@ module _ (rows cols : ℕ) (tiles : List ℕ) (offset : Offset) (b : Board) wher
       (λ z.
       let accepted = eqb-true _ 0 z in
       ap (λ (x : State). onList x v t) (wider-state lent-board count p lent accepted)
-      ∙ widen-keeps this p b flat-embeds (lengths this count b p lent accepted) v on
+      ∙ widen-keeps this p b (lengths this count b p lent accepted) v on flat-windows
       (flat-kept rows cols p (entryIn this v) (cell-in this v on)
       (subst (λ (r : ℕ). (p .left ≡ 0) ⊎ (2 ≤ r)) (sym (entry-row this v on)) above)
       (subst (λ (c : ℕ). (p .top ≡ 0) ⊎ (2 ≤ c)) (sym (entry-col this v on)) before))

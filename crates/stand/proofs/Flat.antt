@@ -18,7 +18,7 @@ use Rattle.rules.specs.Places.{newRows, newCols}
 use Rattle.rules.specs.declared.Pads.{Pads}
 use Rattle.rules.proofs.Fewer.{Seen}
 use Rattle.stand.proofs.Shared.{Sound}
-use Rattle.stand.proofs.Moved.{New, Stays, Embeds}
+use Rattle.stand.proofs.Moved.{New, Stays, Embeds, WindowsStay}
 use Rattle.stand.proofs.Widened.{embedded, embedded-row, embedded-col, embedded-in}
 
 near : (a b d : ℕ) → a ≡ b + d → d ≤ 2 → gap a b ≤ 2
@@ -130,124 +130,129 @@ flat-seen rows cols k k< =
 gap-moved : (l a b : ℕ) → gap (l + a) (l + b) ≡ gap a b
 gap-moved l a b = omega arith
 
-pub flat-embeds : (rows cols : ℕ) (p : Pads)
-    → Embeds (flat rows cols) (flat (newRows rows p) (newCols cols p)) (rows * cols) (newRows rows p * newCols cols p) (embedded cols p)
-unfolding flat
-flat-embeds rows cols p = record { apart = apart; cell = cell; whole = whole; kept = kept; shows = shows; total = total }
-  where
-    wide : ℕ
-    wide = newCols cols p
+-- each cell stands in the wider grid where its row and its column say
+module _ (rows cols : ℕ) (p : Pads) where
+  abbrev wide : ℕ
+  wide = newCols cols p
 
-    e : ℕ → ℕ
-    e = embedded cols p
+  abbrev e : ℕ → ℕ
+  e = embedded cols p
 
-    row : (k : ℕ) → k < rows * cols → e k / wide ≡ p .left + k / cols
-    row = embedded-row rows cols p
+  row : (k : ℕ) → k < rows * cols → e k / wide ≡ p .left + k / cols
+  row = embedded-row rows cols p
 
-    col : (k : ℕ) → k < rows * cols → e k % wide ≡ p .top + k % cols
-    col = embedded-col rows cols p
+  col : (k : ℕ) → k < rows * cols → e k % wide ≡ p .top + k % cols
+  col = embedded-col rows cols p
 
-    apart : (j k : ℕ) → j < rows * cols → k < rows * cols
-        → max (gap (e j / wide) (e k / wide)) (gap (e j % wide) (e k % wide)) ≡ max (gap (j / cols) (k / cols)) (gap (j % cols) (k % cols))
-    apart j k j< k< =
-        rw (row j j<, row k k<, col j j<, col k k<, gap-moved (p .left) (j / cols) (k / cols), gap-moved (p .top) (j % cols) (k % cols))
+  -- where the cell of a row and a column stands
+  placed : (r c : ℕ) → r < rows → c < cols
+      → (entryOrPast rows cols (cellAt r c) < rows * cols)
+      × (entryOrPast (newRows rows p) wide (cellAt (p .left + r) (p .top + c)) ≡ e (entryOrPast rows cols (cellAt r c)))
+  placed r c r< c< = (
+    rw (number-in rows cols r c r< c<) (cell-lt r< c<),
+    rw (number-in rows cols r c r< c<, row-of r c<, col-of r c<) (number-in (newRows rows p) wide (p .left + r) (p .top + c) (omega arith) (omega arith)),
+  )
 
-    start-in : (s : ℕ) → s / cols < rows → s % cols < cols → s < rows * cols
-    start-in s r< c< = subst (λ (n : ℕ). n < rows * cols) (cell-is s cols) (cell-lt r< c<)
+  -- an old cell lies in the part of the grid that the pads leave
+  boxed : (r c : ℕ) → c < wide → (j : ℕ) → j < rows * cols → e j ≡ r * wide + c → InBox (p .left) rows (p .top) cols r c
+  boxed r c c< j j< h =
+      let er : r ≡ p .left + j / cols = sym (row-of r c<) ∙ ap (λ (n : ℕ). n / wide) (sym h) ∙ row j j< in
+      let ec : c ≡ p .top + j % cols = sym (col-of r c<) ∙ ap (λ (n : ℕ). n % wide) (sym h) ∙ col j j< in
+      let r< : j / cols < rows = row-in j rows cols j< in
+      let j%< : j % cols < cols = col-in j rows cols j< in
+      record { below = omega arith; above = omega arith; after = omega arith; before = omega arith }
 
-    -- where the cell of a row and a column stands
-    placed : (r c : ℕ) → r < rows → c < cols
-        → (entryOrPast rows cols (cellAt r c) < rows * cols)
-        × (entryOrPast (newRows rows p) wide (cellAt (p .left + r) (p .top + c)) ≡ e (entryOrPast rows cols (cellAt r c)))
-    placed r c r< c< = (
-      rw (number-in rows cols r c r< c<) (cell-lt r< c<),
-      rw (number-in rows cols r c r< c<, row-of r c<, col-of r c<) (number-in (newRows rows p) wide (p .left + r) (p .top + c) (omega arith) (omega arith)),
-    )
+  pub flat-embeds : Embeds (flat rows cols) (flat (newRows rows p) (newCols cols p)) (rows * cols) (newRows rows p * newCols cols p) (embedded cols p)
+  unfolding flat
+  flat-embeds = record { apart = apart; cell = cell; whole = whole; total = total }
+    where
+      apart : (j k : ℕ) → j < rows * cols → k < rows * cols
+          → max (gap (e j / wide) (e k / wide)) (gap (e j % wide) (e k % wide)) ≡ max (gap (j / cols) (k / cols)) (gap (j % cols) (k % cols))
+      apart j k j< k< =
+          rw (row j j<, row k k<, col j j<, col k k<, gap-moved (p .left) (j / cols) (k / cols), gap-moved (p .top) (j % cols) (k % cols))
 
-    cell : (s i : ℕ) → i < 9 → (ltb (s / cols + 2) rows && ltb (s % cols + 2) cols) ≡ true
-        → (entryOrPast rows cols (cellAt (s / cols + i / 3) (s % cols + i % 3)) < rows * cols)
-        × (entryOrPast (newRows rows p) wide (cellAt (e s / wide + i / 3) (e s % wide + i % 3)) ≡ e (entryOrPast rows cols (cellAt (s / cols + i / 3) (s % cols + i % 3))))
-    cell s i i< inside =
-        let h : Shown rows cols s i = shown rows cols s i i< inside in
-        let r< : s / cols + i / 3 < rows = h .row-low in
-        let c< : s % cols + i % 3 < cols = h .col-low in
-        let s< : s < rows * cols = start-in s (omega arith) (omega arith) in
-        let ra : (p .left + s / cols) + i / 3 ≡ p .left + (s / cols + i / 3) = omega arith in
-        let ca : (p .top + s % cols) + i % 3 ≡ p .top + (s % cols + i % 3) = omega arith in
-        rw (row s s<, col s s<, ra, ca) (placed (s / cols + i / 3) (s % cols + i % 3) r< c<)
+      start-in : (s : ℕ) → s / cols < rows → s % cols < cols → s < rows * cols
+      start-in s r< c< = subst (λ (n : ℕ). n < rows * cols) (cell-is s cols) (cell-lt r< c<)
 
-    whole : (s : ℕ) → (ltb (s / cols + 2) rows && ltb (s % cols + 2) cols) ≡ true
-        → (ltb (e s / wide + 2) (newRows rows p) && ltb (e s % wide + 2) wide) ≡ true
-    whole s inside =
-        let h : Shown rows cols s 8 = shown rows cols s 8 (omega arith) inside in
-        let r< : s / cols + 2 < rows = h .row-low in
-        let c< : s % cols + 2 < cols = h .col-low in
-        let s< : s < rows * cols = start-in s (omega arith) (omega arith) in
-        rw (row s s<, col s s<) (and-both _ _ (lt-ltb ((p .left + s / cols) + 2) (newRows rows p) (omega arith)) (lt-ltb ((p .top + s % cols) + 2) wide (omega arith)))
+      cell : (s i : ℕ) → i < 9 → (ltb (s / cols + 2) rows && ltb (s % cols + 2) cols) ≡ true
+          → (entryOrPast rows cols (cellAt (s / cols + i / 3) (s % cols + i % 3)) < rows * cols)
+          × (entryOrPast (newRows rows p) wide (cellAt (e s / wide + i / 3) (e s % wide + i % 3)) ≡ e (entryOrPast rows cols (cellAt (s / cols + i / 3) (s % cols + i % 3))))
+      cell s i i< inside =
+          let h : Shown rows cols s i = shown rows cols s i i< inside in
+          let r< : s / cols + i / 3 < rows = h .row-low in
+          let c< : s % cols + i % 3 < cols = h .col-low in
+          let s< : s < rows * cols = start-in s (omega arith) (omega arith) in
+          let ra : (p .left + s / cols) + i / 3 ≡ p .left + (s / cols + i / 3) = omega arith in
+          let ca : (p .top + s % cols) + i % 3 ≡ p .top + (s % cols + i % 3) = omega arith in
+          rw (row s s<, col s s<, ra, ca) (placed (s / cols + i / 3) (s % cols + i % 3) r< c<)
 
-    kept : (k q : ℕ) → k < rows * cols → q < 9 → (leb (q / 3) (k / cols) && leb (q % 3) (k % cols)) ≡ true
-        → (leb (q / 3) (e k / wide) && leb (q % 3) (e k % wide)) ≡ true
-    kept k q k< q< on =
-        let a : q / 3 ≤ k / cols = leb-true _ _ (and-left (leb (q / 3) (k / cols)) _ on) in
-        let b : q % 3 ≤ k % cols = leb-true _ _ (and-right (leb (q / 3) (k / cols)) (leb (q % 3) (k % cols)) on) in
-        rw (row k k<, col k k<) (and-both _ _ (le-leb (q / 3) (p .left + k / cols) (omega arith)) (le-leb (q % 3) (p .top + k % cols) (omega arith)))
+      whole : (s : ℕ) → (ltb (s / cols + 2) rows && ltb (s % cols + 2) cols) ≡ true
+          → (ltb (e s / wide + 2) (newRows rows p) && ltb (e s % wide + 2) wide) ≡ true
+      whole s inside =
+          let h : Shown rows cols s 8 = shown rows cols s 8 (omega arith) inside in
+          let r< : s / cols + 2 < rows = h .row-low in
+          let c< : s % cols + 2 < cols = h .col-low in
+          let s< : s < rows * cols = start-in s (omega arith) (omega arith) in
+          rw (row s s<, col s s<) (and-both _ _ (lt-ltb ((p .left + s / cols) + 2) (newRows rows p) (omega arith)) (lt-ltb ((p .top + s % cols) + 2) wide (omega arith)))
 
-    -- an old cell lies in the part of the grid that the pads leave
-    boxed : (r c : ℕ) → c < wide → (j : ℕ) → j < rows * cols → e j ≡ r * wide + c → InBox (p .left) rows (p .top) cols r c
-    boxed r c c< j j< h =
-        let er : r ≡ p .left + j / cols = sym (row-of r c<) ∙ ap (λ (n : ℕ). n / wide) (sym h) ∙ row j j< in
-        let ec : c ≡ p .top + j % cols = sym (col-of r c<) ∙ ap (λ (n : ℕ). n % wide) (sym h) ∙ col j j< in
-        let r< : j / cols < rows = row-in j rows cols j< in
-        let j%< : j % cols < cols = col-in j rows cols j< in
-        record { below = omega arith; above = omega arith; after = omega arith; before = omega arith }
+      total : (f : ℕ → ℕ) → ((k : ℕ) → k < newRows rows p * wide → New (rows * cols) e k → f k ≡ 0) → sum (newRows rows p * wide) f ≡ sum (rows * cols) (λ j. f (e j))
+      total f none =
+          sum-box (newRows rows p) wide (p .left) rows (p .top) cols f (omega arith) (omega arith)
+          (λ r c r< c< out. none (r * wide + c) (cell-lt r< c<) (λ j j< h. out (boxed r c c< j j< h)))
+          ∙ sum-ext _ _ rows (λ r r<. sum-ext _ _ cols (λ c c<. rw (row-of r c<, col-of r c<)))
+          ∙ sym (sum-rows rows cols (λ j. f (e j)))
 
-    -- what is past the old edge is past the new one, or a new cell
-    past : (r c : ℕ) → onGrid rows cols (cellAt r c) ≡ false → New (rows * cols) e (entryOrPast (newRows rows p) wide (cellAt (p .left + r) (p .top + c)))
-    past r c off j j< h =
-        by-test (onGrid (newRows rows p) wide (cellAt (p .left + r) (p .top + c)))
-        (λ on.
-        let c< : p .top + c < wide = ltb-true _ _ (and-right (ltb (p .left + r) (newRows rows p)) (ltb (p .top + c) wide) on) in
-        let b = boxed (p .left + r) (p .top + c) c< j j< (h ∙ number-on (newRows rows p) wide _ _ on) in
-        let r<rows : r < rows = omega (arith, b .above) in
-        let c<cols : c < cols = omega (arith, b .before) in
-        never (onGrid rows cols (cellAt r c)) (and-both _ _ (lt-ltb r rows r<rows) (lt-ltb c cols c<cols)) off)
-        (λ out. over (embedded-in rows cols p j j<) (h ∙ number-past (newRows rows p) wide _ _ out))
+  pub flat-windows : WindowsStay (flat rows cols) (flat (newRows rows p) (newCols cols p)) (rows * cols) (embedded cols p)
+  unfolding flat
+  flat-windows = record { kept = kept; shows = shows }
+    where
+      kept : (k q : ℕ) → k < rows * cols → q < 9 → (leb (q / 3) (k / cols) && leb (q % 3) (k % cols)) ≡ true
+          → (leb (q / 3) (e k / wide) && leb (q % 3) (e k % wide)) ≡ true
+      kept k q k< q< on =
+          let a : q / 3 ≤ k / cols = leb-true _ _ (and-left (leb (q / 3) (k / cols)) _ on) in
+          let b : q % 3 ≤ k % cols = leb-true _ _ (and-right (leb (q / 3) (k / cols)) (leb (q % 3) (k % cols)) on) in
+          rw (row k k<, col k k<) (and-both _ _ (le-leb (q / 3) (p .left + k / cols) (omega arith)) (le-leb (q % 3) (p .top + k % cols) (omega arith)))
 
-    shows : (k q i : ℕ) → k < rows * cols → q < 9 → i < 9 → (leb (q / 3) (k / cols) && leb (q % 3) (k % cols)) ≡ true
-        → Stays (rows * cols) e
-        (entryOrPast rows cols
-        (cellAt (entryOf cols (cellAt (k / cols - q / 3) (k % cols - q % 3)) / cols + i / 3)
-        (entryOf cols (cellAt (k / cols - q / 3) (k % cols - q % 3)) % cols + i % 3)))
-        (entryOrPast (newRows rows p) wide
-        (cellAt (entryOf wide (cellAt (e k / wide - q / 3) (e k % wide - q % 3)) / wide + i / 3)
-        (entryOf wide (cellAt (e k / wide - q / 3) (e k % wide - q % 3)) % wide + i % 3)))
-    shows k q i k< q< i< on =
-        let a : q / 3 ≤ k / cols = leb-true _ _ (and-left (leb (q / 3) (k / cols)) (leb (q % 3) (k % cols)) on) in
-        let b : q % 3 ≤ k % cols = leb-true _ _ (and-right (leb (q / 3) (k / cols)) (leb (q % 3) (k % cols)) on) in
-        let c< : k % cols < cols = col-in k rows cols k< in
-        let r : ℕ = k / cols - q / 3 in
-        let c : ℕ = k % cols - q % 3 in
-        let ra : (p .left + k / cols) - q / 3 ≡ p .left + r = omega arith in
-        let ca : (p .top + k % cols) - q % 3 ≡ p .top + c = omega arith in
-        let in-old : c < cols = omega arith in
-        let in-new : p .top + c < wide = omega arith in
-        let rb : (p .left + r) + i / 3 ≡ p .left + (r + i / 3) = omega arith in
-        let cb : (p .top + c) + i % 3 ≡ p .top + (c + i % 3) = omega arith in
-        rw (row k k<, col k k<, ra, ca, row-of r in-old, col-of r in-old, row-of (p .left + r) in-new, col-of (p .left + r) in-new, rb, cb)
-        (stays (r + i / 3) (c + i % 3))
-      where
-        stays : (r c : ℕ) → Stays (rows * cols) e (entryOrPast rows cols (cellAt r c)) (entryOrPast (newRows rows p) wide (cellAt (p .left + r) (p .top + c)))
-        stays r c =
-            by-test (onGrid rows cols (cellAt r c))
-            (λ on. inl (placed r c (ltb-true r rows (and-left (ltb r rows) (ltb c cols) on)) (ltb-true c cols (and-right (ltb r rows) (ltb c cols) on))))
-            (λ off. inr (low (number-past rows cols r c off), past r c off))
+      -- what is past the old edge is past the new one, or a new cell
+      past : (r c : ℕ) → onGrid rows cols (cellAt r c) ≡ false → New (rows * cols) e (entryOrPast (newRows rows p) wide (cellAt (p .left + r) (p .top + c)))
+      past r c off j j< h =
+          by-test (onGrid (newRows rows p) wide (cellAt (p .left + r) (p .top + c)))
+          (λ on.
+          let c< : p .top + c < wide = ltb-true _ _ (and-right (ltb (p .left + r) (newRows rows p)) (ltb (p .top + c) wide) on) in
+          let b = boxed (p .left + r) (p .top + c) c< j j< (h ∙ number-on (newRows rows p) wide _ _ on) in
+          let r<rows : r < rows = omega (arith, b .above) in
+          let c<cols : c < cols = omega (arith, b .before) in
+          never (onGrid rows cols (cellAt r c)) (and-both _ _ (lt-ltb r rows r<rows) (lt-ltb c cols c<cols)) off)
+          (λ out. over (embedded-in rows cols p j j<) (h ∙ number-past (newRows rows p) wide _ _ out))
 
-    total : (f : ℕ → ℕ) → ((k : ℕ) → k < newRows rows p * wide → New (rows * cols) e k → f k ≡ 0) → sum (newRows rows p * wide) f ≡ sum (rows * cols) (λ j. f (e j))
-    total f none =
-        sum-box (newRows rows p) wide (p .left) rows (p .top) cols f (omega arith) (omega arith)
-        (λ r c r< c< out. none (r * wide + c) (cell-lt r< c<) (λ j j< h. out (boxed r c c< j j< h)))
-        ∙ sum-ext _ _ rows (λ r r<. sum-ext _ _ cols (λ c c<. rw (row-of r c<, col-of r c<)))
-        ∙ sym (sum-rows rows cols (λ j. f (e j)))
+      shows : (k q i : ℕ) → k < rows * cols → q < 9 → i < 9 → (leb (q / 3) (k / cols) && leb (q % 3) (k % cols)) ≡ true
+          → Stays (rows * cols) e
+          (entryOrPast rows cols
+          (cellAt (entryOf cols (cellAt (k / cols - q / 3) (k % cols - q % 3)) / cols + i / 3)
+          (entryOf cols (cellAt (k / cols - q / 3) (k % cols - q % 3)) % cols + i % 3)))
+          (entryOrPast (newRows rows p) wide
+          (cellAt (entryOf wide (cellAt (e k / wide - q / 3) (e k % wide - q % 3)) / wide + i / 3)
+          (entryOf wide (cellAt (e k / wide - q / 3) (e k % wide - q % 3)) % wide + i % 3)))
+      shows k q i k< q< i< on =
+          let a : q / 3 ≤ k / cols = leb-true _ _ (and-left (leb (q / 3) (k / cols)) (leb (q % 3) (k % cols)) on) in
+          let b : q % 3 ≤ k % cols = leb-true _ _ (and-right (leb (q / 3) (k / cols)) (leb (q % 3) (k % cols)) on) in
+          let c< : k % cols < cols = col-in k rows cols k< in
+          let r : ℕ = k / cols - q / 3 in
+          let c : ℕ = k % cols - q % 3 in
+          let ra : (p .left + k / cols) - q / 3 ≡ p .left + r = omega arith in
+          let ca : (p .top + k % cols) - q % 3 ≡ p .top + c = omega arith in
+          let in-old : c < cols = omega arith in
+          let in-new : p .top + c < wide = omega arith in
+          let rb : (p .left + r) + i / 3 ≡ p .left + (r + i / 3) = omega arith in
+          let cb : (p .top + c) + i % 3 ≡ p .top + (c + i % 3) = omega arith in
+          rw (row k k<, col k k<, ra, ca, row-of r in-old, col-of r in-old, row-of (p .left + r) in-new, col-of (p .left + r) in-new, rb, cb)
+          (stays (r + i / 3) (c + i % 3))
+        where
+          stays : (r c : ℕ) → Stays (rows * cols) e (entryOrPast rows cols (cellAt r c)) (entryOrPast (newRows rows p) wide (cellAt (p .left + r) (p .top + c)))
+          stays r c =
+              by-test (onGrid rows cols (cellAt r c))
+              (λ on. inl (placed r c (ltb-true r rows (and-left (ltb r rows) (ltb c cols) on)) (ltb-true c cols (and-right (ltb r rows) (ltb c cols) on))))
+              (λ off. inr (low (number-past rows cols r c off), past r c off))
 
 -- a window of an old cell that is kept in the wider grid was kept before, unless its row or its column is new
 pub flat-kept : (rows cols : ℕ) (p : Pads) (k : ℕ) → k < rows * cols → (p .left ≡ 0) ⊎ (2 ≤ k / cols) → (p .top ≡ 0) ⊎ (2 ≤ k % cols) → (q : ℕ) → q < 9

@@ -31,7 +31,7 @@ use Rattle.stand.specs.Runs.{wallOf}
 use Rattle.rules.proofs.Said.{count-at}
 use Rattle.stand.proofs.Shared.{count-low}
 use Rattle.stand.proofs.Moved.{New, count-carried, lists-carried, lists-kept}
-use Rattle.stand.proofs.Widened.{embedded, GridsEmbed, pieces-long, embedded-in, old-spread, new-spread, spread-is, pieces-carried}
+use Rattle.stand.proofs.Widened.{embedded, GridsEmbed, GridsShow, pieces-long, embedded-in, old-spread, new-spread, spread-is, pieces-carried}
 use Rattle.stand.proofs.Walls.{lies, cell-in, place-back, wall-lies, entry-wider, wall-wider}
 
 module _ (j : Panel) (p : Pads) (b : Board) where
@@ -85,32 +85,32 @@ module _ (j : Panel) (p : Pads) (b : Board) where
       ∙ sym (count-at (shapeOf j) (j .tiles) (b .pieces) k long (cell-in j v on))
 
   -- the list of a place of the old panel
-  module _ (grids : GridsEmbed (j .kind)) (long : length (b .pieces) ≡ j .rows * j .cols) (v : World) (on : onBoard (j .rows) (j .cols) v (j .offset) ≡ true) where
+  module _ (long : length (b .pieces) ≡ j .rows * j .cols) (v : World) (on : onBoard (j .rows) (j .cols) v (j .offset) ≡ true) where
     abbrev moved : List ℕ
     moved = widenedPieces (j .rows) (j .cols) p (b .pieces)
 
-    pub widen-adds-none : (t : ℕ) → lists (shapeOf (wider j p)) (j .tiles) (widened j p b .pieces) (entryIn (wider j p) v) t ≡ true
+    pub widen-adds-none : GridsShow (j .kind) → (t : ℕ) → lists (shapeOf (wider j p)) (j .tiles) (widened j p b .pieces) (entryIn (wider j p) v) t ≡ true
         → lists (shapeOf j) (j .tiles) (b .pieces) (entryIn j v) t ≡ true
     unfolding widened
-    widen-adds-none t e =
-        lists-carried (grids (j .rows) (j .cols) p) (pieces-carried (j .rows) (j .cols) p (b .pieces)) long (pieces-long (j .rows) (j .cols) p (b .pieces))
+    widen-adds-none shown t e =
+        lists-carried (shown (j .rows) (j .cols) p) (pieces-carried (j .rows) (j .cols) p (b .pieces)) long (pieces-long (j .rows) (j .cols) p (b .pieces))
         (j .tiles) (entryIn j v) t (cell-in j v on)
         (sym (ap (λ (k : ℕ). lists (shapeOf (wider j p)) (j .tiles) moved k t) (entry-wider j p v on)) ∙ e)
 
-    pub widen-keeps : ((q : ℕ) → q < 9 → shapeOf (wider j p) .kept (embedded (j .cols) p (entryIn j v)) q ≡ true → shapeOf j .kept (entryIn j v) q ≡ true)
+    pub widen-keeps : GridsShow (j .kind) → ((q : ℕ) → q < 9 → shapeOf (wider j p) .kept (embedded (j .cols) p (entryIn j v)) q ≡ true → shapeOf j .kept (entryIn j v) q ≡ true)
         → (t : ℕ) → lists (shapeOf (wider j p)) (j .tiles) (widened j p b .pieces) (entryIn (wider j p) v) t ≡ lists (shapeOf j) (j .tiles) (b .pieces) (entryIn j v) t
     unfolding widened
-    widen-keeps none-new t =
-        same-test _ _ (widen-adds-none t)
+    widen-keeps shown none-new t =
+        same-test _ _ (widen-adds-none shown t)
         (λ e.
         ap (λ (k : ℕ). lists (shapeOf (wider j p)) (j .tiles) moved k t) (entry-wider j p v on)
-        ∙ lists-kept (grids (j .rows) (j .cols) p) (pieces-carried (j .rows) (j .cols) p (b .pieces)) long (pieces-long (j .rows) (j .cols) p (b .pieces))
+        ∙ lists-kept (shown (j .rows) (j .cols) p) (pieces-carried (j .rows) (j .cols) p (b .pieces)) long (pieces-long (j .rows) (j .cols) p (b .pieces))
         (j .tiles) (entryIn j v) t (cell-in j v on) none-new e)
 
     -- and the count of the region that starts there: it stays, or the region passed the edge and all tiles were counted
-    pub widen-raises-none : getD (widened j p b .counts) (entryIn (wider j p) v) 0 ≤ getD (countsOf (shapeOf j) (j .tiles) (b .pieces)) (entryIn j v) 0
+    pub widen-raises-none : GridsEmbed (j .kind) → getD (widened j p b .counts) (entryIn (wider j p) v) 0 ≤ getD (countsOf (shapeOf j) (j .tiles) (b .pieces)) (entryIn j v) 0
     unfolding widened
-    widen-raises-none =
+    widen-raises-none grids =
         by-test (shapeOf j .whole (entryIn j v))
         (λ whole. rw (counts-kept grids long v on whole) (le-refl _))
         (λ past.

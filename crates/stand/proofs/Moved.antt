@@ -7,7 +7,7 @@
 use Prim.Native.Nat.{ℕ, _<_, _≤_, _-_}
 use mathlib.Core.Path.{_≡_, sym, _∙_, ap}
 use mathlib.Core.Bool.{true, false}
-use mathlib.Core.Logic.{_≢_, _⊎_, ⊎-elim}
+use mathlib.Core.Logic.{_≢_, _⊎_, inr, ⊎-elim}
 use mathlib.Core.List.{List}
 use native.Mathlib.Omega.{arith}
 use lib.ListN.{length, getD, List·getD-eq-default}
@@ -20,7 +20,7 @@ use Rattle.rules.specs.Grid.{Shape, laidOn, colourOn}
 use Rattle.rules.specs.Fit.{pattern, fitCount, lists}
 use Rattle.rules.specs.Board.{reach}
 use Rattle.rules.proofs.Fitting.{count-ext}
-use Rattle.rules.proofs.Meaning.{Agrees, Listed, lists-from, lists-to}
+use Rattle.rules.proofs.Fewer.{lists-under}
 
 -- cell k is none of the n cells that stand in the larger grid by e
 abbrev pub New : ℕ → (ℕ → ℕ) → ℕ → Type 0
@@ -35,9 +35,12 @@ pub record Embeds (g h : Shape) (n m : ℕ) (e : ℕ → ℕ) : Type 0 where
   pub apart : (j k : ℕ) → j < n → k < n → h .apart (e j) (e k) ≡ g .apart j k
   pub cell : (s i : ℕ) → i < 9 → g .whole s ≡ true → (g .cell s i < n) × (h .cell (e s) i ≡ e (g .cell s i))
   pub whole : (s : ℕ) → g .whole s ≡ true → h .whole (e s) ≡ true
+  pub total : (f : ℕ → ℕ) → ((k : ℕ) → k < m → New n e k → f k ≡ 0) → sum m f ≡ sum n (λ j. f (e j))
+
+-- each kept window of one of the n cells is kept, and shows the same cells
+pub record WindowsStay (g h : Shape) (n : ℕ) (e : ℕ → ℕ) : Type 0 where
   pub kept : (k q : ℕ) → k < n → q < 9 → g .kept k q ≡ true → h .kept (e k) q ≡ true
   pub shows : (k q i : ℕ) → k < n → q < 9 → i < 9 → g .kept k q ≡ true → Stays n e (g .cell (g .start k q) i) (h .cell (h .start (e k) q) i)
-  pub total : (f : ℕ → ℕ) → ((k : ℕ) → k < m → New n e k → f k ≡ 0) → sum m f ≡ sum n (λ j. f (e j))
 
 -- the pieces p of the smaller grid stand as q in the larger one, on whose other cells no piece stands
 pub record Carried (n m : ℕ) (e : ℕ → ℕ) (p q : List ℕ) : Type 0 where
@@ -58,50 +61,35 @@ module _ {g h : Shape} {n m : ℕ} {e : ℕ → ℕ} (stands : Embeds g h n m e)
       let c = stands .cell s i i< whole in
       ap (λ (k : ℕ). getD q k 0 - 1) (c .1) ∙ ap (λ (x : ℕ). x - 1) (carried .at (g .cell s i) (c .0)))
 
-  -- the windows of a cell, which may pass the edge
-  module _ (old-long : length p ≡ n) (new-long : length q ≡ m) where
-    colour-carried : {old new : ℕ} → Stays n e old new → colourOn q new ≡ colourOn p old
-    colour-carried {old} {new} st =
-        ⊎-elim
-        (λ w. ap (colourOn q) (w .1) ∙ ap (λ (x : ℕ). x - 1) (carried .at old (w .0)))
-        (λ w. none (w .1) ∙ sym (ap (λ (x : ℕ). x - 1) (List·getD-eq-default p 0 (past (w .0)))))
-        st
-      where
-        past : n ≤ old → length p ≤ old
-        past h = omega (arith, old-long)
+-- the windows of a cell, which may pass the edge
+module _ {g h : Shape} {n m : ℕ} {e : ℕ → ℕ} (stay : WindowsStay g h n e) {p q : List ℕ} (carried : Carried n m e p q) (old-long : length p ≡ n) (new-long : length q ≡ m) where
+  colour-carried : {old new : ℕ} → Stays n e old new → colourOn q new ≡ colourOn p old
+  colour-carried {old} {new} st =
+      ⊎-elim
+      (λ w. ap (colourOn q) (w .1) ∙ ap (λ (x : ℕ). x - 1) (carried .at old (w .0)))
+      (λ w. none (w .1) ∙ sym (ap (λ (x : ℕ). x - 1) (List·getD-eq-default p 0 (past (w .0)))))
+      st
+    where
+      past : n ≤ old → length p ≤ old
+      past h = omega (arith, old-long)
 
-        none : New n e new → colourOn q new ≡ 0
-        none fresh =
-            ⊎-elim
-            (λ (new< : new < m). omega (arith, ltb-false 1 (getD q new 0) (carried .off new new< fresh)))
-            (λ (far : m ≤ new). ap (λ (x : ℕ). x - 1) (List·getD-eq-default q 0 (omega (arith, new-long))))
-            (lt-or-le new m)
+      none : New n e new → colourOn q new ≡ 0
+      none fresh =
+          ⊎-elim
+          (λ (new< : new < m). omega (arith, ltb-false 1 (getD q new 0) (carried .off new new< fresh)))
+          (λ (far : m ≤ new). ap (λ (x : ℕ). x - 1) (List·getD-eq-default q 0 (omega (arith, new-long))))
+          (lt-or-le new m)
 
-    shown-carried : (k r i : ℕ) → k < n → r < 9 → i < 9 → g .kept k r ≡ true → pattern h q (h .start (e k) r) i ≡ pattern g p (g .start k r) i
-    shown-carried k r i k< r< i< kept = colour-carried (stands .shows k r i k< r< i< kept)
+  shown-carried : (k r i : ℕ) → k < n → r < 9 → i < 9 → g .kept k r ≡ true → pattern h q (h .start (e k) r) i ≡ pattern g p (g .start k r) i
+  shown-carried k r i k< r< i< kept = colour-carried (stay .shows k r i k< r< i< kept)
 
-    pub lists-carried : (tiles : List ℕ) (k t : ℕ) → k < n → lists h tiles q (e k) t ≡ true → lists g tiles p k t ≡ true
-    unfolding Listed Agrees
-    lists-carried tiles k t k< listed =
-        lists-to g tiles p k t
-        (λ r l kept.
-        let w = lists-from h tiles q (e k) t listed r l (stands .kept k r k< l kept) in (
-          w .0,
-          w .1,
-          (λ i m laid. let same = shown-carried k r i k< l m kept in w .2 i m (λ z. laid (sym same ∙ z)) ∙ same),
-          w .3,
-        ))
+  pub lists-carried : (tiles : List ℕ) (k t : ℕ) → k < n → lists h tiles q (e k) t ≡ true → lists g tiles p k t ≡ true
+  lists-carried tiles k t k< =
+      lists-under tiles g p k h q (e k) (λ r l kept. (stay .kept k r k< l kept, (λ i m. inr (shown-carried k r i k< l m kept)))) t
 
-    pub lists-kept : (tiles : List ℕ) (k t : ℕ) → k < n → ((r : ℕ) → r < 9 → h .kept (e k) r ≡ true → g .kept k r ≡ true)
-        → lists g tiles p k t ≡ true → lists h tiles q (e k) t ≡ true
-    unfolding Listed Agrees
-    lists-kept tiles k t k< none-new listed =
-        lists-to h tiles q (e k) t
-        (λ r l kept.
-        let old = none-new r l kept in
-        let w = lists-from g tiles p k t listed r l old in (
-          w .0,
-          w .1,
-          (λ i m laid. let same = shown-carried k r i k< l m old in w .2 i m (λ z. laid (same ∙ z)) ∙ sym same),
-          w .3,
-        ))
+  pub lists-kept : (tiles : List ℕ) (k t : ℕ) → k < n → ((r : ℕ) → r < 9 → h .kept (e k) r ≡ true → g .kept k r ≡ true)
+      → lists g tiles p k t ≡ true → lists h tiles q (e k) t ≡ true
+  lists-kept tiles k t k< none-new =
+      lists-under tiles h q (e k) g p k
+      (λ r l kept. let old = none-new r l kept in (old, (λ i m. inr (sym (shown-carried k r i k< l m old)))))
+      t

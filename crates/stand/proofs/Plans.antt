@@ -119,10 +119,10 @@ module _ {j : Panel} {t : Plan} (fine : Fine j t) where
 
 -- ---- one act
 
--- what an act asks of a kind of grid
-abbrev pub Asked : Kind → Act → Type 0
-Asked kind (call c) = Unit
-Asked kind (widen count p lent) = GridsEmbed kind
+-- what an act asks, where a widening asks A
+abbrev pub Asked : Type 0 → Act → Type 0
+Asked A (call c) = Unit
+Asked A (widen count p lent) = A
 
 -- an act is accepted on the board of a plan
 abbrev pub Accepted : Plan → Act → Type 0
@@ -191,7 +191,7 @@ acted-by s (call c) =
     ∙ sym (through (refusalIn s (call c)) (on (s .panel)) _ (changed (s .panel) (s .board) c) (s .board) (λ e. refl))
 acted-by s (widen count p lent) = once (refusalIn s (widen count p lent)) (on (wider (s .panel) p)) (widened (s .panel) p (s .board)) lent s
 
-done-is : {j : Panel} (t : Plan) (a : Act) → Fine j t → SoundKind (j .kind) → Asked (j .kind) a → Accepted t a → done (stateAt t) a ≡ stateAt (says t a)
+done-is : {j : Panel} (t : Plan) (a : Act) → Fine j t → SoundKind (j .kind) → Asked (GridsEmbed (j .kind)) a → Accepted t a → done (stateAt t) a ≡ stateAt (says t a)
 done-is {j} t (call c) fine sound asked h =
     ap (on (t .panel))
     (changed-is (t .panel) (subst (λ (k : Kind). Sound (k (t .panel .rows) (t .panel .cols))) (sym (fine .kind)) (sound _ _)) (pieces t) c (good-of fine) h
@@ -210,6 +210,6 @@ module _ {j : Panel} (t : Plan) (a : Act) (fine : Fine j t) where
   pub moved-fine : Fine j (movedTo t a)
   moved-fine = either (Fine j) (refusalIn (stateAt t) a) (λ e. says-fine t a fine (act-accepts t a e)) fine
 
-  pub acted-is : SoundKind (j .kind) → Asked (j .kind) a → acted (stateAt t) a ≡ stateAt (movedTo t a)
+  pub acted-is : SoundKind (j .kind) → Asked (GridsEmbed (j .kind)) a → acted (stateAt t) a ≡ stateAt (movedTo t a)
   acted-is sound asked =
       acted-by (stateAt t) a ∙ through (refusalIn (stateAt t) a) stateAt _ (says t a) t (λ e. done-is t a fine sound asked (act-accepts t a e))

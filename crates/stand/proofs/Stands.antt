@@ -41,24 +41,31 @@ use Rattle.stand.proofs.Flat.{flat-sound, flat-embeds}
 use Rattle.stand.proofs.Calls.{Good, fresh-of}
 use Rattle.stand.proofs.Plans.{on-place, stateAt, Fine, good-of, laid-lies, Asked, movedTo, moved-fine, acted-is}
 
--- what the acts ask of a kind of grid: nothing, where none of them widens
-abbrev pub Widenable : Kind → List Act → Type 0
-Widenable kind [] = Unit
-Widenable kind (call c ∷ acts) = Widenable kind acts
-Widenable kind (widen count p lent ∷ acts) = GridsEmbed kind × Widenable kind acts
+-- what acts ask, where a widening asks A: nothing, where none of them widens
+abbrev pub WhereWidened : Type 0 → List Act → Type 0
+WhereWidened A [] = Unit
+WhereWidened A (call c ∷ acts) = WhereWidened A acts
+WhereWidened A (widen count p lent ∷ acts) = A × WhereWidened A acts
 
-pub asked : (kind : Kind) (a : Act) (acts : List Act) → Widenable kind (a ∷ acts) → Asked kind a × Widenable kind acts
-asked kind (call c) acts may = (tt, may)
-asked kind (widen count p lent) acts may = may
+-- what they ask of a kind of grid for demand 3
+abbrev pub Widenable : Kind → List Act → Type 0
+Widenable kind acts = WhereWidened (GridsEmbed kind) acts
+
+pub asked : (A : Type 0) (a : Act) (acts : List Act) → WhereWidened A (a ∷ acts) → Asked A a × WhereWidened A acts
+asked A (call c) acts may = (tt, may)
+asked A (widen count p lent) acts may = may
 
 pub calls-may : (kind : Kind) (calls : List Call) → Widenable kind (map call calls)
 calls-may kind [] = tt
 calls-may kind (c ∷ calls) = calls-may kind calls
 
+pub all-may : (A : Type 0) → A → (acts : List Act) → WhereWidened A acts
+all-may A h [] = tt
+all-may A h (call c ∷ acts) = all-may A h acts
+all-may A h (widen count p lent ∷ acts) = (h, all-may A h acts)
+
 pub flat-may : (acts : List Act) → Widenable flat acts
-flat-may [] = tt
-flat-may (call c ∷ acts) = flat-may acts
-flat-may (widen count p lent ∷ acts) = (flat-embeds, flat-may acts)
+flat-may = all-may (GridsEmbed flat) flat-embeds
 
 -- a sum of shares, as numbers of pieces
 one-share : (on : Bool) (d : ℕ) → pick on (share d) 0 ≡ 3 * pick (on && leb d 1) 1 0 + pick (on && eqb d 2) 1 0
@@ -121,7 +128,7 @@ module _ (j : Panel) (sound : SoundKind (j .kind)) where
   unfolding run fold
   run-is t [] fine may = refl
   run-is t (a ∷ acts) fine may =
-      let h = asked (j .kind) a acts may in
+      let h = asked (GridsEmbed (j .kind)) a acts may in
       ap (λ (s : State). run s acts) (acted-is t a fine sound (h .0)) ∙ run-is (movedTo t a) acts (moved-fine t a fine) (h .1)
 
   -- what the accepted acts say is what the run leaves
@@ -135,7 +142,7 @@ module _ (j : Panel) (sound : SoundKind (j .kind)) where
   unfolding acceptedIn fold
   told-is t [] fine may = refl
   told-is t (a ∷ acts) fine may =
-      let h = asked (j .kind) a acts may in
+      let h = asked (GridsEmbed (j .kind)) a acts may in
       first-said t a (refusalIn (stateAt t) a) (acceptedIn (acted (stateAt t) a) acts)
       ∙ ap (λ (s : State). fold says (movedTo t a) (acceptedIn s acts)) (acted-is t a fine sound (h .0))
       ∙ told-is (movedTo t a) acts (moved-fine t a fine) (h .1)

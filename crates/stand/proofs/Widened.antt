@@ -26,7 +26,7 @@ use Rattle.rules.specs.declared.Pads.{Pads}
 use Rattle.rules.proofs.Copying.{old-at, old-cell, new-cell}
 use Rattle.rules.proofs.Said.{weights-long, weight-at}
 use Rattle.stand.proofs.Shared.{both}
-use Rattle.stand.proofs.Moved.{New, Embeds, Carried, weight-carried}
+use Rattle.stand.proofs.Moved.{New, Embeds, WindowsStay, Carried, weight-carried}
 
 -- where cell k of a panel of so many columns stands in the wider one
 abbrev pub embedded : ℕ → Pads → ℕ → ℕ
@@ -37,6 +37,11 @@ abbrev pub GridsEmbed : Kind → Type 0
 GridsEmbed kind =
     (rows cols : ℕ) (p : Pads)
     → Embeds (kind rows cols) (kind (newRows rows p) (newCols cols p)) (rows * cols) (newRows rows p * newCols cols p) (embedded cols p)
+
+-- and what it asks for the lists of the cells
+abbrev pub GridsShow : Kind → Type 0
+GridsShow kind =
+    (rows cols : ℕ) (p : Pads) → WindowsStay (kind rows cols) (kind (newRows rows p) (newCols cols p)) (rows * cols) (embedded cols p)
 
 module _ (rows cols : ℕ) (p : Pads) where
   abbrev wide : ℕ
