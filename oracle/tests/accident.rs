@@ -74,17 +74,9 @@ fn from_the_pieces(board: &Board) -> Vec<u32> {
 
 #[cfg(feature = "port")]
 #[allow(dead_code)]
-#[path = "../src/calls.rs"]
-mod calls;
+mod linked;
 #[cfg(feature = "port")]
-#[allow(dead_code)]
-#[path = "../src/outcome.rs"]
-mod outcome;
-#[cfg(feature = "port")]
-#[allow(dead_code)]
-#[rustfmt::skip]
-#[path = "../src/port.rs"]
-mod port;
+use linked::{calls, outcome, port};
 
 #[cfg(feature = "port")]
 const PADS: calls::Pads = calls::Pads { left: 1, right: 1, top: 1, bottom: 1 };

@@ -137,17 +137,9 @@ fn a_listed_colour_closes_another_cell() {
 
 #[cfg(feature = "port")]
 #[allow(dead_code)]
-#[path = "../src/calls.rs"]
-mod calls;
+mod linked;
 #[cfg(feature = "port")]
-#[allow(dead_code)]
-#[path = "../src/outcome.rs"]
-mod outcome;
-#[cfg(feature = "port")]
-#[allow(dead_code)]
-#[rustfmt::skip]
-#[path = "../src/port.rs"]
-mod port;
+use linked::{calls, outcome, port};
 
 #[cfg(feature = "port")]
 mod compiled {

@@ -14,7 +14,7 @@ use lib.Dec.{eqb}
 use lib.IntN.{pos}
 use lib.ListN.{length, getD, set, length-set}
 use lib.Seq.{set-set, set-getD}
-use borrow.Author.Tests.{ltb-false, eqb-true, not-true}
+use borrow.Author.Tests.{ltb-false, eqb-true}
 use Rattle.base.specs.Counting.{every, some, tally, within}
 use Rattle.base.specs.Tables.{tab}
 use Rattle.base.specs.Refusal.{refusal}
@@ -27,7 +27,7 @@ use Rattle.rules.specs.Bounds.{bare}
 use Rattle.rules.specs.Tests.{boardSides, hasLength, tileNumberFits, wholeTiles, colourCount, noneAbove, piecesStored, pieceStored, onWall, offsetFits, onBoard}
 use Rattle.rules.specs.Answers.{listingAnswer}
 use Rattle.rules.specs.Sets.{has, bitsOf}
-use Rattle.rules.specs.Grid.{entryOrPast, flat, laidOn}
+use Rattle.rules.specs.Grid.{entryOrPast, flat}
 use Rattle.rules.specs.Places.{cellOf}
 use Rattle.rules.specs.Fit.{agrees, fitsTile, fitCount, hasFitting, allows, leftAfter, lists, listingChecks, foundAt, listing}
 use Rattle.rules.specs.Board.{Panel, Board, shapeOf, entryIn, recounted, laid, lifted, freshBoard, layChecks, liftChecks, afterLay, afterLift}
@@ -36,6 +36,7 @@ use Rattle.rules.specs.declared.World.{World}
 use Rattle.rules.specs.declared.TileBitset.{TileBitset}
 use Rattle.fit.specs.Choices.{answers, asked}
 use Rattle.rules.proofs.Fewer.{lists-fewer, under-lift, put-stored}
+use Rattle.rules.proofs.Choices.{lay-off}
 use Rattle.places.proofs.Indices.{entry-below}
 use Rattle.bitset_colours.proofs.Digits.{bits-lt, bits-has, has-zero, has-past}
 
@@ -76,7 +77,7 @@ module _ (j : Panel) (n : ℕ) (v : World) where
     abbrev here : ℕ
     here = entryIn j place
 
-    -- an accepted lay finds its cell bare
+    -- what is stored where an accepted lay finds no piece
     bare-there : (colour : ℕ) → refusal (layChecks j count b place colour) ≡ 0 → getD (b .pieces) here 0 ≡ bare
     unfolding hasLength piecesStored
     bare-there colour accepted =
@@ -84,8 +85,7 @@ module _ (j : Panel) (n : ℕ) (v : World) where
         let long : length (b .pieces) ≡ j .rows * j .cols = eqb-true _ _ (search) in
         let k< : here < j .rows * j .cols = entry-below (j .rows) (j .cols) place (j .offset) (search) in
         let stored = every-at (pieceStored (b .pieces) count) (length (b .pieces)) (search) here (omega arith) in
-        let off : laidOn (b .pieces) here ≡ false = not-true _ (search) in
-        omega (arith, within-low 1 (count + 1) (getD (b .pieces) here 0) stored, ltb-false 1 (getD (b .pieces) here 0) off)
+        omega (arith, within-low 1 (count + 1) (getD (b .pieces) here 0) stored, ltb-false 1 (getD (b .pieces) here 0) (lay-off j count b place colour accepted))
 
     pub lift-answers : (t : ℕ) → answers (asked j n v (b .pieces)) t ≡ true → answers (asked j n v (afterLift j count b place .pieces)) t ≡ true
     unfolding afterLift lifted

@@ -5,7 +5,7 @@
 --     lay-own         after an accepted lay the cell's own list is the colour laid, if it was listed, and else empty
 --     given-back      an accepted lift of the piece just laid gives back every list
 --     rises-without, falls-without   boards of the fewest cells, tiles and pieces that show what the condition on the counts is for
--- What never grows, rises or falls follows from one fact, that fewer tiles fit where more pieces lie (Fewer). Assumes nothing.
+-- What never grows, shrinks, rises or falls follows from one fact, that fewer tiles fit where more pieces lie (Fewer). Assumes nothing.
 use Prim.Native.Nat.{ℕ, _+_, _-_, _<_, _≤_}
 use mathlib.Core.Path.{_≡_, refl, sym, _∙_, ap, subst}
 use mathlib.Core.Bool.{Bool, true, false, _&&_}
@@ -45,7 +45,7 @@ module _ (j : Panel) (count : ℕ) (b : Board) (place : World) where
   listed c k t = lists (shapeOf j) (j .tiles) (c .pieces) k t
 
   -- an accepted lay finds its cell bare
-  lay-off : (colour : ℕ) → refusal (layChecks j count b place colour) ≡ 0 → laidOn (b .pieces) here ≡ false
+  pub lay-off : (colour : ℕ) → refusal (layChecks j count b place colour) ≡ 0 → laidOn (b .pieces) here ≡ false
   lay-off colour e = let h = all-pass (layChecks j count b place colour) refl e in not-true _ (search)
 
   pub lay-under : (colour : ℕ) → Under (b .pieces) (afterLay j count b place colour .pieces)
@@ -138,10 +138,10 @@ module _ (j : Panel) (count : ℕ) (b : Board) (place : World) where
 -- ---- what the condition on the counts is for
 
 -- One tile of colour 1. A count changes only where a region lies inside the grid, so three rows and columns are the fewest
-abbrev plain : Panel
+abbrev pub plain : Panel
 plain = panel 3 3 (replicate 9 1) (record { 0 = pos 0; 1 = pos 0 })
 
-abbrev corner : World
+abbrev pub corner : World
 corner = record { 0 = pos 0; 1 = pos 0 }
 
 -- a bare board whose first count is 0 where 1 is right; all else is what the pieces say

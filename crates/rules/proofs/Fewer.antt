@@ -1,4 +1,4 @@
--- Fewer tiles fit where more pieces lie, over any shape of grid; nothing is asked of the shape.
+-- Fewer tiles fit where more pieces lie, over any shape of grid. Of the shape nothing is asked, but for a cell's own list (`Seen`).
 --     fits-fewer    the one fact: a tile that fits a pattern fits one that shows less
 --     lists-under   what is listed at a cell is listed where each kept window shows less, on another grid too
 --     fit-count-fewer, lists-fewer    where every piece of p stands in q too, what fits or is listed on q fits or is listed on p
@@ -8,7 +8,7 @@
 -- Assumes nothing.
 use Prim.Native.Nat.{ℕ, _+_, _-_, _*_, _<_, _≤_}
 use mathlib.Core.Path.{_≡_, refl, sym, _∙_, ap, subst}
-use mathlib.Core.Bool.{Bool, true, false, not, _||_}
+use mathlib.Core.Bool.{Bool, true, false}
 use mathlib.Core.Logic.{_⊎_, inl, inr, ⊎-elim}
 use mathlib.Core.List.{List}
 use native.Mathlib.Nat.{le-refl}
@@ -19,32 +19,32 @@ use lib.Seq.{getD-set-same, getD-set-other}
 use borrow.Author.Tests.{ltb-true, ltb-false, eqb-true, eqb-false, eq-eqb}
 use Rattle.base.specs.Counting.{pick}
 use Rattle.base.specs.Tables.{tab}
-use Rattle.base.proofs.Bools.{by-test, or-left, or-right, and-left, and-right, and-both, pick-yes, pick-no}
+use Rattle.base.proofs.Bools.{by-test, or-left, and-left, and-right, and-both, pick-yes, pick-no}
 use Rattle.base.proofs.Counted.{every-at, every-is, some-at, some-is, tally-less}
 use Rattle.base.proofs.Tabled.{length-tab, getD-tab}
 use Rattle.base.proofs.Numbers.{lt-or-le, within-is}
 use Rattle.rules.specs.Bounds.{bare}
 use Rattle.rules.specs.Tests.{tilesIn, piecesStored, pieceStored}
 use Rattle.rules.specs.Grid.{Shape, colourOn, laidOn}
-use Rattle.rules.specs.Fit.{pattern, agrees, agreesAt, fitsTile, fitCount, serves, hasFitting, allows, windowOrder, leftAfter, lists}
-use Rattle.rules.specs.Board.{countsOf, isRecounted, recounted, laid}
-use Rattle.rules.proofs.Meaning.{order-lt, Agrees, Listed, lists-from, lists-to}
+use Rattle.rules.specs.Fit.{pattern, agrees, agreesAt, fitsTile, fitCount, serves, hasFitting, lists}
+use Rattle.rules.specs.Board.{countsOf, isRecounted, recounted}
+use Rattle.rules.proofs.Meaning.{windows-from, windows-to, Agrees, Listed, lists-from, lists-to}
 use Rattle.rules.proofs.Said.{counts-long, count-at}
 
 -- ---- the one fact
 
 -- what one place shows, beside what another does: nothing, or the same
-abbrev pub Less : ℕ → ℕ → Type 0
-Less a b = (a ≡ 0) ⊎ (b ≡ a)
+abbrev pub ShowsLess : ℕ → ℕ → Type 0
+ShowsLess a b = (a ≡ 0) ⊎ (b ≡ a)
 
 -- a place that shows a piece asks the same there, and one that shows none asks nothing
-agrees-fewer : (a b c : ℕ) → Less a b → agrees b c ≡ true → agrees a c ≡ true
+agrees-fewer : (a b c : ℕ) → ShowsLess a b → agrees b c ≡ true → agrees a c ≡ true
 unfolding agrees
 agrees-fewer a b c u e = ⊎-elim (λ z. or-left (eqb a 0) (eqb a c) (eq-eqb a 0 z)) (λ z. subst (λ (x : ℕ). agrees x c ≡ true) z e) u
 
 -- two patterns: the first shows at each place nothing, or what the second shows
-module _ (tiles : List ℕ) (less more : ℕ → ℕ) (under : (i : ℕ) → i < 9 → Less (less i) (more i)) where
-  fits-fewer : (n : ℕ) → fitsTile tiles more n ≡ true → fitsTile tiles less n ≡ true
+module _ (tiles : List ℕ) (less more : ℕ → ℕ) (under : (i : ℕ) → i < 9 → ShowsLess (less i) (more i)) where
+  pub fits-fewer : (n : ℕ) → fitsTile tiles more n ≡ true → fitsTile tiles less n ≡ true
   unfolding fitsTile
   fits-fewer n e =
       every-is (agreesAt tiles less n) 9 (λ i l. agrees-fewer _ _ _ (under i l) (every-at (agreesAt tiles more n) 9 e i l))
@@ -63,34 +63,24 @@ module _ (tiles : List ℕ) (less more : ℕ → ℕ) (under : (i : ℕ) → i <
       (fits-fewer (w .0) (and-left (fitsTile tiles more (w .0)) there (w .2)))
       (and-right (fitsTile tiles more (w .0)) there (w .2)))
 
--- cell k with the pieces p of grid g, and cell l with the pieces q of grid h: each window that is kept there is kept here, and shows there
--- at each place nothing, or what it shows here
-abbrev pub Windows : Shape → List ℕ → ℕ → Shape → List ℕ → ℕ → Type 0
-Windows g p k h q l =
+-- cell k of grid g with the pieces p, and cell l of grid h with the pieces q: each window of the first that is kept is kept for the second,
+-- and shows at each place nothing, or what it shows for the second
+abbrev pub WindowsShowLess : Shape → List ℕ → ℕ → Shape → List ℕ → ℕ → Type 0
+WindowsShowLess g p k h q l =
     (r : ℕ) → r < 9 → g .kept k r ≡ true
-    → (h .kept l r ≡ true) × ((i : ℕ) → i < 9 → Less (pattern g p (g .start k r) i) (pattern h q (h .start l r) i))
+    → (h .kept l r ≡ true) × ((i : ℕ) → i < 9 → ShowsLess (pattern g p (g .start k r) i) (pattern h q (h .start l r) i))
 
-module _ (tiles : List ℕ) (g : Shape) (p : List ℕ) (k : ℕ) (h : Shape) (q : List ℕ) (l : ℕ) (windows : Windows g p k h q l) (t : ℕ) where
-  allowed : (r : ℕ) → r < 9 → allows h tiles q l t r ≡ true → allows g tiles p k t r ≡ true
-  unfolding allows
-  allowed r r< e =
-      by-test (g .kept k r)
-      (λ kept.
-      let w = windows r r< kept in
-      let has : hasFitting tiles (pattern h q (h .start l r)) r t ≡ true =
-      sym (ap (λ (b : Bool). not b || hasFitting tiles (pattern h q (h .start l r)) r t) (w .0)) ∙ e in
-      or-right (not (g .kept k r)) _ (has-fewer tiles (pattern g p (g .start k r)) (pattern h q (h .start l r)) (w .1) r t has))
-      (λ skipped. rw skipped)
-
-  pub lists-under : lists h tiles q l t ≡ true → lists g tiles p k t ≡ true
-  unfolding leftAfter
-  lists-under e =
-      every-is (λ i. allows g tiles p k t (getD windowOrder i 0)) 9
-      (λ i i<. allowed (getD windowOrder i 0) (order-lt i i<) (every-at (λ i. allows h tiles q l t (getD windowOrder i 0)) 9 e i i<))
+pub lists-under : (tiles : List ℕ) (g : Shape) (p : List ℕ) (k : ℕ) (h : Shape) (q : List ℕ) (l : ℕ) → WindowsShowLess g p k h q l → (t : ℕ)
+    → lists h tiles q l t ≡ true → lists g tiles p k t ≡ true
+lists-under tiles g p k h q l less t e =
+    windows-to g tiles p k t
+    (λ r r< kept.
+    let w = less r r< kept in
+    has-fewer tiles (pattern g p (g .start k r)) (pattern h q (h .start l r)) (w .1) r t (windows-from h tiles q l t e r r< (w .0)))
 
 -- every piece of p stands in q too; past the edge neither has one
 pub record Under (p q : List ℕ) : Type 0 where
-  pub at : (k : ℕ) → Less (colourOn p k) (colourOn q k)
+  pub at : (k : ℕ) → ShowsLess (colourOn p k) (colourOn q k)
 
 module _ (g : Shape) (tiles : List ℕ) {p q : List ℕ} (under : Under p q) where
   pub fit-count-fewer : (s : ℕ) → fitCount tiles (pattern g q s) ≤ fitCount tiles (pattern g p s)
@@ -105,7 +95,7 @@ pub under-same : (p : List ℕ) → Under p p
 under-same p = record { at = λ k. inr refl }
 
 -- a cell without a piece shows none
-shows-none : (p : List ℕ) (k : ℕ) → laidOn p k ≡ false → colourOn p k ≡ 0
+pub shows-none : (p : List ℕ) (k : ℕ) → laidOn p k ≡ false → colourOn p k ≡ 0
 shows-none p k off = omega (arith, ltb-false 1 (getD p k 0) off)
 
 pub under-lay : (p : List ℕ) (k v : ℕ) → laidOn p k ≡ false → Under p (set p k v)

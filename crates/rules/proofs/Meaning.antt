@@ -1,6 +1,6 @@
 -- What the listing means, in words of 'for every' and 'there is', both ways, over any shape of grid: a colour is listed at a cell exactly if
--- each kept window has a tile that agrees with the laid pieces and holds that colour there. And that the order of the nine windows does
--- not change the list. Assumes nothing.
+-- each kept window has a tile that agrees with the laid pieces and holds that colour there (`lists-from`, `lists-to`; `windows-from`,
+-- `windows-to`: window by window, by its test). And that the order of the nine windows does not change the list. Assumes nothing.
 use Prim.Native.Nat.{ℕ, _+_, _*_, _<_}
 use mathlib.Core.Path.{_≡_, refl, sym, _∙_, ap, subst}
 use mathlib.Core.Bool.{Bool, true, not, _&&_, _||_}
@@ -68,12 +68,23 @@ module _ (g : Shape) (tiles pieces : List ℕ) (k t : ℕ) where
   abbrev shown : ℕ → ℕ → ℕ
   shown q = pattern g pieces (g .start k q)
 
+  pub windows-from : lists g tiles pieces k t ≡ true → (q : ℕ) → q < 9 → g .kept k q ≡ true → hasFitting tiles (shown q) q t ≡ true
+  unfolding leftAfter allows
+  windows-from e q l kept =
+      sym (ap (λ (b : Bool). not b || hasFitting tiles (shown q) q t) kept)
+      ∙ every-at (allows g tiles pieces k t) 9 (sym (in-order (allows g tiles pieces k t)) ∙ e) q l
+
+  pub windows-to : ((q : ℕ) → q < 9 → g .kept k q ≡ true → hasFitting tiles (shown q) q t ≡ true) → lists g tiles pieces k t ≡ true
+  unfolding leftAfter allows
+  windows-to h =
+      in-order (allows g tiles pieces k t)
+      ∙ every-is (allows g tiles pieces k t) 9
+      (λ q l. by-test (g .kept k q) (λ e. or-right (not (g .kept k q)) (hasFitting tiles (shown q) q t) (h q l e)) (λ e. rw e))
+
   pub lists-from : lists g tiles pieces k t ≡ true → Listed g tiles pieces k t
-  unfolding Listed Agrees leftAfter allows hasFitting fitsTile
+  unfolding Listed Agrees hasFitting fitsTile
   lists-from e q l kept =
-      let h = every-at (allows g tiles pieces k t) 9 (sym (in-order (allows g tiles pieces k t)) ∙ e) q l in
-      let s : hasFitting tiles (shown q) q t ≡ true = sym (ap (λ (b : Bool). not b || hasFitting tiles (shown q) q t) kept) ∙ h in
-      let w = some-at (serves tiles (shown q) q t) (tilesIn tiles) s in
+      let w = some-at (serves tiles (shown q) q t) (tilesIn tiles) (windows-from e q l kept) in
       let f = and-left (fitsTile tiles (shown q) (w .0)) (eqb t (getD tiles (w .0 * 9 + q) 0)) (w .2) in (
         w .0,
         w .1,
@@ -82,14 +93,12 @@ module _ (g : Shape) (tiles pieces : List ℕ) (k t : ℕ) where
       )
 
   pub lists-to : Listed g tiles pieces k t → lists g tiles pieces k t ≡ true
-  unfolding Listed Agrees leftAfter allows hasFitting fitsTile
-  lists-to h = in-order (allows g tiles pieces k t) ∙ every-is (allows g tiles pieces k t) 9 (λ q l. by-test (g .kept k q) (λ e. at q l e) (λ e. rw e))
-    where
-      at : (q : ℕ) → q < 9 → g .kept k q ≡ true → allows g tiles pieces k t q ≡ true
-      at q l e =
-          let w = h q l e in
-          or-right (not (g .kept k q)) (hasFitting tiles (shown q) q t)
-          (some-is (serves tiles (shown q) q t) (tilesIn tiles) (w .0) (w .1)
-          (and-both (fitsTile tiles (shown q) (w .0)) (eqb t (getD tiles (w .0 * 9 + q) 0))
-          (every-is (agreesAt tiles (shown q) (w .0)) 9 (λ i m. agree-to _ _ (w .2 i m)))
-          (eq-eqb t (getD tiles (w .0 * 9 + q) 0) (sym (w .3)))))
+  unfolding Listed Agrees hasFitting fitsTile
+  lists-to h =
+      windows-to
+      (λ q l e.
+      let w = h q l e in
+      some-is (serves tiles (shown q) q t) (tilesIn tiles) (w .0) (w .1)
+      (and-both (fitsTile tiles (shown q) (w .0)) (eqb t (getD tiles (w .0 * 9 + q) 0))
+      (every-is (agreesAt tiles (shown q) (w .0)) 9 (λ i m. agree-to _ _ (w .2 i m)))
+      (eq-eqb t (getD tiles (w .0 * 9 + q) 0) (sym (w .3)))))

@@ -38,11 +38,11 @@ use Rattle.rules.specs.Promises.{board, panel}
 use Rattle.rules.specs.declared.World.{World}
 use Rattle.rules.specs.declared.Offset.{Offset}
 use Rattle.rules.specs.declared.Pads.{Pads}
-use Rattle.rules.proofs.Choices.{lay-adds-none, lift-removes-none, lay-raises-none, lift-lowers-none, lay-own}
+use Rattle.rules.proofs.Choices.{lay-adds-none, lift-removes-none, lay-raises-none, lift-lowers-none, lay-own, plain, corner}
 use Rattle.stand.specs.Runs.{State, start, lay, lift, Act, call, widen, refusalIn, acted, run, acceptedIn}
 use Rattle.stand.specs.Choices.{onList, countAt, Counted, isLift, AllLifts}
 use Rattle.stand.proofs.Shared.{Sound, SoundKind, recount}
-use Rattle.stand.proofs.Widened.{GridsEmbed, GridsShow}
+use Rattle.stand.proofs.Widened.{GridsEmbed, GridsKeepWindows}
 use Rattle.stand.proofs.Flat.{flat-sound, flat-windows, flat-seen, flat-kept}
 use Rattle.stand.proofs.Walls.{lies, cell-in, entry-row, entry-col, lies-wider}
 use Rattle.stand.proofs.Kept.{widen-adds-none, widen-keeps, widen-raises-none}
@@ -77,7 +77,7 @@ lies-still s (widen count p lent) v on =
     either (λ (z : State). lies (z .panel) v ≡ true) (refusalIn s (widen count p lent)) (λ e. lies-wider (s .panel) p v on) on
 
 -- an act that is no accepted lift adds no colour
-act-adds-none : (s : State) (a : Act) → Asked (GridsShow (s .panel .kind)) a → (refusalIn s a ≡ 0 → isLift a ≡ false) → (v : World) → lies (s .panel) v ≡ true → (t : ℕ)
+act-adds-none : (s : State) (a : Act) → Asked (GridsKeepWindows (s .panel .kind)) a → (refusalIn s a ≡ 0 → isLift a ≡ false) → (v : World) → lies (s .panel) v ≡ true → (t : ℕ)
     → onList (acted s a) v t ≡ true → onList s v t ≡ true
 act-adds-none s (call (lay count w colour)) ask none v on t e = lay-adds-none (s .panel) count (s .board) w colour (entryIn (s .panel) v) t e
 act-adds-none s (call (lift count w)) ask none v on t e =
@@ -106,15 +106,15 @@ first-of zero are a later h = ((λ e. h .0), h .1)
 first-of (suc n) are a later h = ((λ (e : _≡_ {A = ℕ} (suc n) 0). absurd (omega arith)), h)
 
 -- "while only lays follow, a list never grows": and with widenings, for places that lie on the panel
-pub never-grows : (s : State) (acts : List Act) → WhereWidened (GridsShow (s .panel .kind)) acts → AllLifts false (acceptedIn s acts)
+pub never-grows : (s : State) (acts : List Act) → WhereWidened (GridsKeepWindows (s .panel .kind)) acts → AllLifts false (acceptedIn s acts)
     → (v : World) → lies (s .panel) v ≡ true → (t : ℕ) → onList (run s acts) v t ≡ true → onList s v t ≡ true
 unfolding run fold acceptedIn
 never-grows s [] may none v on t e = e
 never-grows s (a ∷ acts) may none v on t e =
-    let h = asked (GridsShow (s .panel .kind)) a acts may in
+    let h = asked (GridsKeepWindows (s .panel .kind)) a acts may in
     let n = first-of (refusalIn s a) false a (acceptedIn (acted s a) acts) none in
     act-adds-none s a (h .0) (n .0) v on t
-    (never-grows (acted s a) acts (subst (λ (k : Kind). WhereWidened (GridsShow k) acts) (sym (kind-still s a)) (h .1)) (n .1) v (lies-still s a v on) t e)
+    (never-grows (acted s a) acts (subst (λ (k : Kind). WhereWidened (GridsKeepWindows k) acts) (sym (kind-still s a)) (h .1)) (n .1) v (lies-still s a v on) t e)
 
 pub never-shrinks : (s : State) (acts : List Act) → AllLifts true (acceptedIn s acts) → (v : World) (t : ℕ) → onList s v t ≡ true → onList (run s acts) v t ≡ true
 unfolding run fold acceptedIn
@@ -209,7 +209,7 @@ run-counted j sound acts may = ap (λ (b : Board). b .counts) (says-all j sound 
 module _ (s : State) (level : s .panel .kind ≡ flat) where
   pub flat-never-grows : (acts : List Act) → AllLifts false (acceptedIn s acts) → (v : World) → lies (s .panel) v ≡ true → (t : ℕ)
       → onList (run s acts) v t ≡ true → onList s v t ≡ true
-  flat-never-grows acts = never-grows s acts (all-may _ (subst GridsShow (sym level) flat-windows) acts)
+  flat-never-grows acts = never-grows s acts (all-may _ (subst GridsKeepWindows (sym level) flat-windows) acts)
 
   pub flat-never-rises : (acts : List Act) → Counted s → AllLifts false (acceptedIn s acts) → (v : World) → lies (s .panel) v ≡ true
       → countAt (run s acts) v ≤ countAt s v
@@ -254,9 +254,6 @@ module _ (rows cols : ℕ) (tiles : List ℕ) (offset : Offset) (b : Board) wher
 
 -- ---- lists and counts that do become less
 
-abbrev corner : World
-corner = record { 0 = pos 0; 1 = pos 0 }
-
 -- one bare cell and the tile 122/222/222: no window is kept but the one that starts at the cell, and it lists 1. With a row before it, the
 -- window that starts there is kept too, and has 2 at the cell's place: nothing is listed
 abbrev single : Panel
@@ -272,11 +269,8 @@ unfolding coloursOf those refusal within withinZ every some tab freshBoard board
 can-empty = (refl, refl, refl)
 
 -- a fresh 3x3 board and a tile of colour 1: colour 2 in the corner fits no tile, and the count of the region falls from 1 to 0
-abbrev nine : Panel
-nine = panel 3 3 (replicate 9 1) (record { 0 = pos 0; 1 = pos 0 })
-
-pub can-lower : (refusalIn (start nine) (call (lay 2 corner 2)) ≡ 0)
-    × (countAt (start nine) corner ≡ 1)
-    × (countAt (acted (start nine) (call (lay 2 corner 2))) corner ≡ 0)
+pub can-lower : (refusalIn (start plain) (call (lay 2 corner 2)) ≡ 0)
+    × (countAt (start plain) corner ≡ 1)
+    × (countAt (acted (start plain) (call (lay 2 corner 2))) corner ≡ 0)
 unfolding refusal within withinZ every tally tab freshBoard boardSides hasLength tileNumberFits wholeTiles colourCount noneAbove piecesStored onWall offsetFits onBoard afterLay laid recounted fitCount fitsTile agrees flat entryOrPast cellOf
 can-lower = (refl, refl, refl)

@@ -1,6 +1,7 @@
--- The flat board is a sound shape: a region shows the cells at most two rows and two columns past its start, and no other. And it can be
--- widened: moved by the pads, each cell stands in the larger grid, rows and columns as far from each other as before.
--- Assumes nothing.
+-- The flat board is a sound shape: a region shows the cells at most two rows and two columns past its start, and no other (`flat-sound`), and
+-- a window that holds a cell shows it once (`flat-seen`). And it can be widened: moved by the pads, each cell stands in the larger grid, rows
+-- and columns as far from each other as before (`flat-embeds`), each kept window is kept and shows the same (`flat-windows`), and none is
+-- kept that was skipped, but above the old rows and before the old columns (`flat-kept`). Assumes nothing.
 use Prim.Native.Nat.{ℕ, _+_, _-_, _*_, _/_, _%_, _<_, _≤_, max}
 use mathlib.Core.Path.{_≡_, sym, _∙_, ap, subst}
 use mathlib.Core.Bool.{true, false, _&&_}

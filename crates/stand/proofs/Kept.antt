@@ -31,7 +31,7 @@ use Rattle.stand.specs.Runs.{wallOf}
 use Rattle.rules.proofs.Said.{count-at}
 use Rattle.stand.proofs.Shared.{count-low}
 use Rattle.stand.proofs.Moved.{New, count-carried, lists-carried, lists-kept}
-use Rattle.stand.proofs.Widened.{embedded, GridsEmbed, GridsShow, pieces-long, embedded-in, old-spread, new-spread, spread-is, pieces-carried}
+use Rattle.stand.proofs.Widened.{embedded, GridsEmbed, GridsKeepWindows, pieces-long, embedded-in, old-spread, new-spread, spread-is, pieces-carried}
 use Rattle.stand.proofs.Walls.{lies, cell-in, place-back, wall-lies, entry-wider, wall-wider}
 
 module _ (j : Panel) (p : Pads) (b : Board) where
@@ -89,7 +89,7 @@ module _ (j : Panel) (p : Pads) (b : Board) where
     abbrev moved : List ℕ
     moved = widenedPieces (j .rows) (j .cols) p (b .pieces)
 
-    pub widen-adds-none : GridsShow (j .kind) → (t : ℕ) → lists (shapeOf (wider j p)) (j .tiles) (widened j p b .pieces) (entryIn (wider j p) v) t ≡ true
+    pub widen-adds-none : GridsKeepWindows (j .kind) → (t : ℕ) → lists (shapeOf (wider j p)) (j .tiles) (widened j p b .pieces) (entryIn (wider j p) v) t ≡ true
         → lists (shapeOf j) (j .tiles) (b .pieces) (entryIn j v) t ≡ true
     unfolding widened
     widen-adds-none shown t e =
@@ -97,7 +97,7 @@ module _ (j : Panel) (p : Pads) (b : Board) where
         (j .tiles) (entryIn j v) t (cell-in j v on)
         (sym (ap (λ (k : ℕ). lists (shapeOf (wider j p)) (j .tiles) moved k t) (entry-wider j p v on)) ∙ e)
 
-    pub widen-keeps : GridsShow (j .kind) → ((q : ℕ) → q < 9 → shapeOf (wider j p) .kept (embedded (j .cols) p (entryIn j v)) q ≡ true → shapeOf j .kept (entryIn j v) q ≡ true)
+    pub widen-keeps : GridsKeepWindows (j .kind) → ((q : ℕ) → q < 9 → shapeOf (wider j p) .kept (embedded (j .cols) p (entryIn j v)) q ≡ true → shapeOf j .kept (entryIn j v) q ≡ true)
         → (t : ℕ) → lists (shapeOf (wider j p)) (j .tiles) (widened j p b .pieces) (entryIn (wider j p) v) t ≡ lists (shapeOf j) (j .tiles) (b .pieces) (entryIn j v) t
     unfolding widened
     widen-keeps shown none-new t =

@@ -2,8 +2,9 @@
 --     weight-carried    the weight of a cell
 --     count-carried     how many tiles fit a region that lies inside
 --     lists-carried     a colour that is listed there was listed before; lists-kept: and the other way, where no window is kept that was skipped
--- Over any two shapes: each distance is kept, each cell of a region, and that it lies inside; each kept window, and what it shows; a sum over
--- the cells of the larger grid, to which its other cells add nothing, is one over the cells of the smaller. Assumes nothing.
+-- Over any two shapes. Weight and count ask (`Embeds`) that each distance is kept, each cell of a region, and that it lies inside, and that a
+-- sum over the cells of the larger grid, to which its other cells add nothing, is one over the cells of the smaller. Lists ask
+-- (`WindowsStay`) that each kept window is kept, and what it shows. Assumes nothing.
 use Prim.Native.Nat.{ℕ, _<_, _≤_, _-_}
 use mathlib.Core.Path.{_≡_, sym, _∙_, ap}
 use mathlib.Core.Bool.{true, false}
@@ -11,7 +12,6 @@ use mathlib.Core.Logic.{_≢_, _⊎_, inr, ⊎-elim}
 use mathlib.Core.List.{List}
 use native.Mathlib.Omega.{arith}
 use lib.ListN.{length, getD, List·getD-eq-default}
-use borrow.Author.Tests.{ltb-false}
 use Rattle.base.specs.Counting.{pick, sum}
 use Rattle.base.proofs.Bools.{pick-no}
 use Rattle.base.proofs.Counted.{sum-ext}
@@ -20,7 +20,7 @@ use Rattle.rules.specs.Grid.{Shape, laidOn, colourOn}
 use Rattle.rules.specs.Fit.{pattern, fitCount, lists}
 use Rattle.rules.specs.Board.{reach}
 use Rattle.rules.proofs.Fitting.{count-ext}
-use Rattle.rules.proofs.Fewer.{lists-under}
+use Rattle.rules.proofs.Fewer.{shows-none, lists-under}
 
 -- cell k is none of the n cells that stand in the larger grid by e
 abbrev pub New : ℕ → (ℕ → ℕ) → ℕ → Type 0
@@ -76,7 +76,7 @@ module _ {g h : Shape} {n m : ℕ} {e : ℕ → ℕ} (stay : WindowsStay g h n e
       none : New n e new → colourOn q new ≡ 0
       none fresh =
           ⊎-elim
-          (λ (new< : new < m). omega (arith, ltb-false 1 (getD q new 0) (carried .off new new< fresh)))
+          (λ (new< : new < m). shows-none q new (carried .off new new< fresh))
           (λ (far : m ≤ new). ap (λ (x : ℕ). x - 1) (List·getD-eq-default q 0 (omega (arith, new-long))))
           (lt-or-le new m)
 

@@ -2,7 +2,8 @@
 --     widened-is    a board that is what its pieces say, widened, is what the moved pieces say
 --     old-spread, new-spread, old-or-new    the cells of a wider plane: each is one of the old ones, or new
 --     spread-is     a plane of the wider panel is known by its old and by its new cells
--- What is asked of a kind of grid: that the smaller one stands in the wider one, cell by cell (`GridsEmbed`). Assumes nothing.
+-- What is asked of a kind of grid: that the smaller one stands in the wider one, cell by cell (`GridsEmbed`); for lists, that the windows of
+-- its cells stay (`GridsKeepWindows`). Assumes nothing.
 use Prim.Native.Nat.{ℕ, _+_, _-_, _*_, _/_, _%_, _<_}
 use mathlib.Core.Path.{_≡_, refl, sym, _∙_, ap, subst}
 use mathlib.Core.Bool.{Bool, true}
@@ -39,8 +40,8 @@ GridsEmbed kind =
     → Embeds (kind rows cols) (kind (newRows rows p) (newCols cols p)) (rows * cols) (newRows rows p * newCols cols p) (embedded cols p)
 
 -- and what it asks for the lists of the cells
-abbrev pub GridsShow : Kind → Type 0
-GridsShow kind =
+abbrev pub GridsKeepWindows : Kind → Type 0
+GridsKeepWindows kind =
     (rows cols : ℕ) (p : Pads) → WindowsStay (kind rows cols) (kind (newRows rows p) (newCols cols p)) (rows * cols) (embedded cols p)
 
 module _ (rows cols : ℕ) (p : Pads) where
