@@ -1,8 +1,8 @@
 -- Document 02, request 9, in the answers of the listing call: laying never opens a choice.
 --     lay-answers     a colour that a listing answers after a lay, the same listing answers before it
 --     lift-answers    a colour that a listing answers before a lift, the same listing answers after it
---     can-shorten     and an answer that a lay shortens
--- Both say too that the other listing is not refused. By one piece less: the checks pass as they did, and no colour leaves the list.
+--     can-shorten     what answers are, on one board: one that a lay shortens, and a refused one
+-- The two theorems say too that the other listing is not refused. By one piece less: the checks pass as they did, and no colour leaves the list.
 -- Assumes nothing.
 use Prim.Native.Nat.{ℕ, zero, suc, _+_, _*_, _<_, _≤_}
 use mathlib.Core.Path.{_≡_, refl, sym, _∙_, ap, subst}
@@ -39,6 +39,32 @@ use Rattle.rules.proofs.Fewer.{lists-fewer, under-lift, put-stored}
 use Rattle.rules.proofs.Choices.{lay-off}
 use Rattle.places.proofs.Indices.{entry-below}
 use Rattle.bitset_colours.proofs.Digits.{bits-lt, bits-has, has-zero, has-past}
+
+-- ---- what answers are, on one board: and one that gets shorter
+
+-- the two chequer tiles on a board of three rows and columns
+abbrev chequer : Panel
+chequer = panel 3 3 (1 ∷ 2 ∷ 1 ∷ 2 ∷ 1 ∷ 2 ∷ 1 ∷ 2 ∷ 1 ∷ 2 ∷ 1 ∷ 2 ∷ 1 ∷ 2 ∷ 1 ∷ 2 ∷ 1 ∷ 2 ∷ []) (record { 0 = pos 0; 1 = pos 0 })
+
+abbrev place : ℕ → ℕ → World
+place r c = record { 0 = pos r; 1 = pos c }
+
+abbrev bareBoard : Board
+bareBoard = freshBoard 9 2
+
+abbrev centre : Board
+centre = afterLay chequer 2 bareBoard (place 1 1) 1
+
+-- in the corner 1 and 2 are answered, and with 1 laid in the middle 1 alone; a listing that names one colour is refused and answers none
+pub can-shorten : (answers (asked chequer 2 (place 0 0) (bareBoard .pieces)) 1 ≡ true)
+    × (answers (asked chequer 2 (place 0 0) (bareBoard .pieces)) 2 ≡ true)
+    × (answers (asked chequer 2 (place 0 0) (centre .pieces)) 1 ≡ true)
+    × (answers (asked chequer 2 (place 0 0) (centre .pieces)) 2 ≡ false)
+    × (answers (asked chequer 1 (place 0 0) (bareBoard .pieces)) 1 ≡ false)
+unfolding listing refusal within withinZ every some tally tab freshBoard boardSides hasLength tileNumberFits wholeTiles colourCount noneAbove piecesStored onWall offsetFits onBoard afterLay laid recounted fitCount fitsTile agrees leftAfter allows hasFitting flat entryOrPast cellOf has bitsOf
+can-shorten = (refl, refl, refl, refl, refl)
+
+-- ---- the two theorems
 
 -- an answer with a colour is no refusal
 told : (n : ℕ) (s : TileBitset) (t : ℕ) → answers (listingAnswer n s) t ≡ true → (n ≡ 0) × (has (s .bits) t ≡ true)
@@ -101,27 +127,3 @@ module _ (j : Panel) (n : ℕ) (v : World) where
         (set-set (b .pieces) here (colour + 1) bare ∙ ap (set (b .pieces) here) (sym (bare-there colour accepted)) ∙ set-getD (b .pieces) here 0)
         (one-less (set (b .pieces) here (colour + 1)) here t e))
         (λ e. e)
-
--- ---- an answer that gets shorter
-
--- the two chequer tiles on a board of three rows and columns
-abbrev chequer : Panel
-chequer = panel 3 3 (1 ∷ 2 ∷ 1 ∷ 2 ∷ 1 ∷ 2 ∷ 1 ∷ 2 ∷ 1 ∷ 2 ∷ 1 ∷ 2 ∷ 1 ∷ 2 ∷ 1 ∷ 2 ∷ 1 ∷ 2 ∷ []) (record { 0 = pos 0; 1 = pos 0 })
-
-abbrev place : ℕ → ℕ → World
-place r c = record { 0 = pos r; 1 = pos c }
-
-abbrev bareBoard : Board
-bareBoard = freshBoard 9 2
-
-abbrev centre : Board
-centre = afterLay chequer 2 bareBoard (place 1 1) 1
-
--- in the corner 1 and 2 are answered, and with 1 laid in the middle 1 alone; a listing that names one colour is refused and answers none
-pub can-shorten : (answers (asked chequer 2 (place 0 0) (bareBoard .pieces)) 1 ≡ true)
-    × (answers (asked chequer 2 (place 0 0) (bareBoard .pieces)) 2 ≡ true)
-    × (answers (asked chequer 2 (place 0 0) (centre .pieces)) 1 ≡ true)
-    × (answers (asked chequer 2 (place 0 0) (centre .pieces)) 2 ≡ false)
-    × (answers (asked chequer 1 (place 0 0) (bareBoard .pieces)) 1 ≡ false)
-unfolding listing refusal within withinZ every some tally tab freshBoard boardSides hasLength tileNumberFits wholeTiles colourCount noneAbove piecesStored onWall offsetFits onBoard afterLay laid recounted fitCount fitsTile agrees leftAfter allows hasFitting flat entryOrPast cellOf has bitsOf
-can-shorten = (refl, refl, refl, refl, refl)
