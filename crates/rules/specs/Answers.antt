@@ -37,6 +37,8 @@ use Rattle.rules.specs.declared.LiftAnswer.the-variants as LiftAnswer·
 use Rattle.rules.specs.declared.Offset.{Offset}
 use Rattle.rules.specs.declared.WidenAnswer.{WidenAnswer}
 use Rattle.rules.specs.declared.WidenAnswer.the-variants as WidenAnswer·
+use Rattle.rules.specs.declared.RunAnswer.{RunAnswer}
+use Rattle.rules.specs.declared.RunAnswer.the-variants as RunAnswer·
 
 abbrev pub spanAnswer : ℕ → Span → Span → SpanAnswer
 spanAnswer zero r c = SpanAnswer·.Spans r c
@@ -97,3 +99,10 @@ abbrev pub nextAnswer : ℕ → List ForcedPosition → Next
 nextAnswer zero [] = Next·.Nothing
 nextAnswer zero (e ∷ l) = Next·.Taken e
 nextAnswer (suc n) l = Next·.Refused (suc n)
+
+-- how a forced run ended: full, or else done where no entry waits and spent where one does; how many were taken, and how many laid
+abbrev pub runAnswer : ℕ → Bool → List ForcedPosition → ℕ → ℕ → RunAnswer
+runAnswer zero true l taken laid = RunAnswer·.Full taken laid
+runAnswer zero false [] taken laid = RunAnswer·.Done taken laid
+runAnswer zero false (e ∷ l) taken laid = RunAnswer·.Spent taken laid
+runAnswer (suc n) full l taken laid = RunAnswer·.Refused (suc n)

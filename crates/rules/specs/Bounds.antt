@@ -37,6 +37,10 @@ queueRoom = 64
 abbrev pub addedRoom : ℕ
 addedRoom = 8
 
+-- document 02, request 2: the entries that a forced run may take
+abbrev pub maxBudget : ℕ
+maxBudget = 4096
+
 abbrev pub minCoordinate : ℤ
 minCoordinate = negℤ (pos 1000000)
 

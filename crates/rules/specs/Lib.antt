@@ -12,4 +12,5 @@ pub mod Scores
 pub mod Probabilities
 pub mod Board
 pub mod Widening
+pub mod ForcedRun
 pub mod Promises

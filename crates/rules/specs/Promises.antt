@@ -15,6 +15,7 @@ use Rattle.rules.specs.Scores.{layScores, liftScores, layScoreChecks, li
 use Rattle.rules.specs.Probabilities.{Block, probabilitiesAt, normalised, normaliseChecks, multiplied, divided, influenceChecks}
 use Rattle.rules.specs.Board.{Panel, Board, laying, afterLay, lifting, afterLift, freshBoard, freshChecks, raised, lowered, weightChecks, recounted, recountChecks}
 use Rattle.rules.specs.Widening.{widening, afterWiden}
+use Rattle.rules.specs.ForcedRun.{running, afterRun}
 use Rattle.rules.specs.declared.World.{World}
 use Rattle.rules.specs.declared.Offset.{Offset}
 use Rattle.rules.specs.declared.Span.{Span}
@@ -23,7 +24,9 @@ use Rattle.rules.specs.declared.Written.{Written}
 use Rattle.rules.specs.declared.TileNumber.{TileNumber}
 use Rattle.rules.specs.declared.LayAnswer.{LayAnswer}
 use Rattle.rules.specs.declared.LiftAnswer.{LiftAnswer}
+use Rattle.rules.specs.declared.GenerationBounds.{GenerationBounds}
 use Rattle.rules.specs.declared.WidenAnswer.{WidenAnswer}
+use Rattle.rules.specs.declared.RunAnswer.{RunAnswer}
 
 -- ---- lent memory
 
@@ -109,3 +112,7 @@ Lifts j count place old = Gives (lifting j count old place) (afterLift j count o
 -- the board of a panel into three larger planes
 abbrev pub Widens : Panel → ℕ → Pads → Board → Board → WidenAnswer → Board → Type 0
 Widens j count p old lent = Gives (widening j count old p lent) (afterWiden j count old p lent)
+
+-- the forced pieces run out from a place
+abbrev pub RunsOut : Panel → ℕ → World → GenerationBounds → ℕ → Board → RunAnswer → Board → Type 0
+RunsOut j count place bounds budget old = Gives (running j count old place bounds budget) (afterRun j count old place bounds budget)

@@ -29,6 +29,9 @@ pub const QUEUE_ROOM: usize = 64;
 
 pub const ADDED_ROOM: usize = 8;
 
+// Document 02, request 2.
+pub const MAX_BUDGET: usize = 4_096;
+
 pub const BARE_PIECE: u32 = 1;
 
 // Document 01, "Refusal numbers".
@@ -188,6 +191,15 @@ pub enum LiftAnswer {
 // The offset of the widened panel.
 pub enum WidenAnswer {
     Widened(Offset),
+    Refused(u8),
+}
+
+// How a forced run ended: with no entry left, with its budget spent, or with more places than its queue has room for. The first number
+// is that of the entries taken, the second that of those laid.
+pub enum RunAnswer {
+    Done(usize, usize),
+    Spent(usize, usize),
+    Full(usize, usize),
     Refused(u8),
 }
 
