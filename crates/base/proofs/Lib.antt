@@ -3,6 +3,7 @@ pub mod Numbers
 pub mod Counted
 pub mod Sums
 pub mod Tabled
+pub mod Each
 pub mod Swept
 pub mod Sweep
 pub mod Regions

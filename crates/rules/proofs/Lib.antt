@@ -1,6 +1,9 @@
 pub mod Meaning
 pub mod Said
 pub mod Fewer
+pub mod Walled
+pub mod Queues
+pub mod ForcedRun
 pub mod Choices
 pub mod Bench
 pub mod Answered

@@ -1,27 +1,25 @@
 -- Wall coordinates and cells: a place on the board has a cell of the board and no other place has that cell; each cell has a place on the
--- wall, which is why an offset is at least -999,937 on a board of at most 64 cells a side. In a wider panel a place lies where its cell was
--- moved to. Assumes nothing.
-use Prim.Native.Nat.{ℕ, zero, suc, _+_, _-_, _*_, _/_, _%_, _<_, _≤_}
-use mathlib.Core.Path.{_≡_, refl, sym, _∙_, ap}
-use mathlib.Core.Bool.{Bool, true, false, cond, _&&_}
+-- wall. In a wider panel a place lies where its cell was moved to. Assumes nothing.
+use Prim.Native.Nat.{ℕ, _+_, _*_, _/_, _%_, _<_, _≤_}
+use mathlib.Core.Path.{_≡_, sym, _∙_, ap}
+use mathlib.Core.Bool.{Bool, true}
 use native.Mathlib.Nat.{add-comm}
 use native.Mathlib.Omega.{arith}
-use lib.Dec.{leb, ltb}
-use lib.IntN.{ℤ, pos, negsuc, _+ℤ_, _-ℤ_, +ℤ-assoc, pos-+ℤ-pos, +ℤ-negℤ-cancel, -ℤ-+ℤ-cancel}
-use lib.Signed.{leZ}
-use borrow.Author.Tests.{leb-true, lt-ltb, le-leb}
+use lib.IntN.{ℤ, pos, _+ℤ_, _-ℤ_, +ℤ-assoc, pos-+ℤ-pos, -ℤ-+ℤ-cancel}
+use borrow.Author.Tests.{lt-ltb}
 use Rattle.base.specs.Counting.{within}
 use Rattle.base.specs.Whole.{clip, withinZ, indexBelow, eqZ}
 use Rattle.base.proofs.Bools.{and-left, and-right, and-both}
 use Rattle.base.proofs.Numbers.{cell-lt, row-of, col-of, cell-is, row-in, col-in, within-high}
 use Rattle.base.proofs.Signs.{eqZ-same, eqZ-true, index-clip, index-pos}
-use Rattle.rules.specs.Bounds.{maxBoardSide, minCoordinate, maxCoordinate, minOffset, maxOffset}
+use Rattle.rules.specs.Bounds.{maxBoardSide, minOffset, maxOffset}
 use Rattle.rules.specs.Tests.{boardSides, onWall, offsetFits, onBoard}
 use Rattle.rules.specs.Places.{cellOf, samePlace, extensionBy, newRows, newCols}
 use Rattle.rules.specs.Board.{Panel, entryIn}
 use Rattle.rules.specs.Widening.{wider}
 use Rattle.rules.specs.declared.World.{World}
 use Rattle.rules.specs.declared.Pads.{Pads}
+use Rattle.rules.proofs.Walled.{back, less-offset}
 use Rattle.stand.specs.Runs.{wallOf}
 use Rattle.stand.proofs.Widened.{embedded}
 
@@ -79,10 +77,6 @@ module _ (j : Panel) where
   unfolding cellOf
   entry-col w on = col-of (clip (rowZ w)) (col-low w on)
 
-  -- an index, less its offset, is the coordinate
-  back : (n : ℕ) (x o : ℤ) → indexBelow n (x +ℤ o) ≡ true → pos (clip (x +ℤ o)) -ℤ o ≡ x
-  back n x o e = ap (λ (z : ℤ). z -ℤ o) (sym (index-pos n (x +ℤ o) e)) ∙ +ℤ-negℤ-cancel x o
-
   -- the place of the cell of a place is the place itself
   pub place-back : (v : World) → lies j v ≡ true → wallOf j (entryIn j v) ≡ v
   unfolding wallOf cellOf
@@ -106,22 +100,6 @@ module _ (j : Panel) where
   unfolding wallOf cellOf
   wall-cell k =
       rw (-ℤ-+ℤ-cancel (pos (k / j .cols)) (j .offset .0), -ℤ-+ℤ-cancel (pos (k % j .cols)) (j .offset .1)) (cell-is k (j .cols))
-
--- index - offset is a wall coordinate
-less-offset : (n : ℕ) (o : ℤ) → n < maxBoardSide → withinZ minOffset maxOffset o ≡ true → withinZ minCoordinate maxCoordinate (pos n -ℤ o) ≡ true
-unfolding withinZ
-less-offset n (pos zero) h e = le-leb (n + 0) 1000000 (omega arith)
-less-offset n (pos (suc m)) h e = side (ltb n (suc m)) refl
-  where
-    small : suc m ≤ 1000000
-    small = leb-true (suc m) 1000000 e
-
-    side : (t : Bool) → ltb n (suc m) ≡ t → (leZ minCoordinate (cond t (negsuc (suc m - suc n)) (pos (n - suc m))) && leZ (cond t (negsuc (suc m - suc n)) (pos (n - suc m))) maxCoordinate) ≡ true
-    side true f = and-both (leb (suc m - suc n) 999999) true (le-leb (suc m - suc n) 999999 (omega (arith, small))) refl
-    side false f = le-leb (n - suc m) 1000000 (omega arith)
-less-offset n (negsuc m) h e =
-    let small : m ≤ 999936 = leb-true m 999936 (and-left (leb m 999936) true e) in
-    le-leb (n + suc m) 1000000 (omega arith)
 
 -- the bounds of the sides
 pub record Sides (rows cols : ℕ) : Type 0 where

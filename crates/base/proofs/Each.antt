@@ -1,0 +1,30 @@
+-- A fact that holds of each entry of a list: `Each P l`. Of two lists one after the other, and of those that pass a test.
+-- Assumes nothing.
+use Prim.Native.Nat.{ℕ, zero, suc, _<_}
+use mathlib.Core.Path.{_≡_}
+use mathlib.Core.Bool.{Bool, true}
+use mathlib.Core.List.{List, [], _∷_, _++_}
+use native.Mathlib.Nat.{le-step, lt-suc-self}
+use Rattle.base.specs.Tables.{those}
+use Rattle.base.proofs.Bools.{by-test}
+
+module _ {A : Type 0} where
+  abbrev pub Each : (A → Type 0) → List A → Type 0
+  Each P [] = Unit
+  Each P (x ∷ l) = P x × Each P l
+
+  pub each-more : (P : A → Type 0) (l m : List A) → Each P l → Each P m → Each P (l ++ m)
+  each-more P [] m h k = k
+  each-more P (x ∷ l) m (p, h) k = (p, each-more P l m h k)
+
+  pub each-those : (P : A → Type 0) (n : ℕ) (test : ℕ → Bool) (f : ℕ → A) → ((k : ℕ) → k < n → test k ≡ true → P (f k)) → Each P (those n test f)
+  unfolding those
+  each-those P zero test f h = tt
+  each-those P (suc n) test f h =
+      each-more P (those n test f) _ (each-those P n test f (λ k l e. h k (le-step l) e))
+      (by-test (test n) (λ e. rw e (h n (lt-suc-self n) e, tt)) (λ e. rw e tt))
+
+  -- what follows from it entry by entry
+  pub each-so : (P Q : A → Type 0) → ((x : A) → P x → Q x) → (l : List A) → Each P l → Each Q l
+  each-so P Q f [] h = tt
+  each-so P Q f (x ∷ l) (p, h) = (f x p, each-so P Q f l h)
