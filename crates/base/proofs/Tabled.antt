@@ -36,6 +36,12 @@ module _ {A : Type 0} where
       ext-getD d l (tab n f) (e ∙ sym (length-tab n f))
       (λ k b. let k< : k < n = omega arith in h k k< ∙ sym (getD-tab n f k d k<))
 
+  -- one entry more at the end
+  pub tab-last : (n : ℕ) (f : ℕ → A) → tab (suc n) f ≡ tab n f ++ (f n ∷ [])
+  unfolding tab
+  tab-last zero f = refl
+  tab-last (suc n) f = ap (λ (l : List A). f 0 ∷ l) (tab-last n (λ k. f (suc k)))
+
   -- one entry more of those that pass a test
   pub those-none : (test : ℕ → Bool) (f : ℕ → A) → those 0 test f ≡ []
   unfolding those

@@ -1,17 +1,14 @@
--- Laws of adding: what one position more makes of a queue, that adding never shortens one, and the state of the loop that adds: what is
--- still to be added to the queue so far gives what all the positions give.
+-- Laws of adding: what one position more makes of a queue, and the state of the loop that adds: what is still to be added to the queue so
+-- far gives what all the positions give.
 -- Assumes nothing.
 use Prim.Native.Nat.{ℕ, _+_, _<_, _≤_}
-use mathlib.Core.Path.{_≡_, refl, sym, _∙_, ap}
+use mathlib.Core.Path.{_≡_, sym, _∙_, ap}
 use mathlib.Core.Bool.{true, false}
 use mathlib.Core.List.{List, [], _∷_, _++_}
-use native.Mathlib.Nat.{le-trans}
 use native.Mathlib.Omega.{arith}
 use borrow.Author.Tests.{le-leb, lt-leb}
 use lib.ListN.{length, getD, take, drop, set, length-append}
-use Rattle.base.specs.Tables.{fold}
 use Rattle.base.specs.Refusal.{refusal}
-use Rattle.base.proofs.Bools.{by-test, pick-yes, pick-no}
 use Rattle.base.proofs.Numbers.{lt-or-le}
 use Rattle.rules.specs.Bounds.{queueRoom, ROOM}
 use Rattle.rules.specs.Forced.{queued, queueOf, padded, isQueued, withPosition, withPositions}
@@ -21,6 +18,7 @@ use Rattle.rules.specs.declared.Grown.{Grown}
 use Rattle.rules.specs.declared.Written.{Written}
 use Rattle.rules.specs.declared.Written.the-variants.{Done, Refused}
 use mathlib.Core.Logic.{⊎-elim}
+use Rattle.rules.proofs.Queues.{with-old, with-new, with-one, with-none, grows}
 use Rattle.queue_entries.specs.Unchecked.{Tidy, grownTo}
 use Rattle.queue_entries.proofs.Places.{still, none-left}
 use Rattle.queue_entries.proofs.Entries.{queue-is, queued-of, filled}
@@ -47,21 +45,6 @@ module _ (q : ForcedPipeline) (l : List ForcedPosition) where
       ⊎-elim (λ h. (h, ap (λ (r : Grown). r .answer) (e ∙ sym (grown-none h))))
       (λ h. absurd (let z : _≡_ {A = ℕ} 0 1 = cc (grown-all h) in omega arith))
       (lt-or-le queueRoom (length l))
-
--- one position
-module _ (l : List ForcedPosition) (e : ForcedPosition) where
-  pub with-old : isQueued (e .coordinates) l ≡ true → withPosition l e ≡ l
-  unfolding withPosition
-  with-old h = pick-yes (isQueued (e .coordinates) l) l (l ++ (e ∷ [])) h
-
-  pub with-new : isQueued (e .coordinates) l ≡ false → withPosition l e ≡ l ++ (e ∷ [])
-  unfolding withPosition
-  with-new h = pick-no (isQueued (e .coordinates) l) l (l ++ (e ∷ [])) h
-
-  one-grows : length l ≤ length (withPosition l e)
-  one-grows =
-      by-test (isQueued (e .coordinates) l) (λ h. rw (with-old h) (omega arith))
-      (λ h. rw (with-new h) (omega (arith, length-append l (e ∷ []))))
 
 pub tidy-of : (q : ForcedPipeline) (l : List ForcedPosition) → q ≡ queueOf l → length l ≤ queueRoom → Tidy q
 unfolding queueOf
@@ -102,21 +85,6 @@ module _ (q : ForcedPipeline) (e : ForcedPosition) (t : Tidy q) where
         ap (λ (r : ForcedPipeline). record { answer = Done; queue = r }) (queue-is (set (q .entries) (q .len) e) l (q .len + 1) g (sym longer))
         ∙ grown-all q (queued q ++ (e ∷ [])) (omega (arith, longer))
         ∙ ap (grownTo q) (sym (with-new (queued q) e h))
-
--- many
-pub grows : (l more : List ForcedPosition) → length l ≤ length (withPositions l more)
-unfolding withPositions fold
-grows l [] = omega arith
-grows l (e ∷ more) = le-trans (one-grows l e) (grows (withPosition l e) more)
-
-pub with-one : (l : List ForcedPosition) (e : ForcedPosition) (more : List ForcedPosition)
-    → withPositions l (e ∷ more) ≡ withPositions (withPosition l e) more
-unfolding withPositions fold
-with-one l e more = refl
-
-pub with-none : (l : List ForcedPosition) → withPositions l [] ≡ l
-unfolding withPositions fold
-with-none l = refl
 
 -- the state of the loop at turn i
 pub record Grows (q : ForcedPipeline) (more : List ForcedPosition) (n : ℕ) (grown : ForcedPipeline) (i : ℕ) : Type 0 where

@@ -64,7 +64,8 @@ pub fn take_next(queue: ForcedPipeline) -> Taken
     Taken { next, queue: left }
 }
 
-fn same_place(place: World, other: World) -> bool
+// Whether two coordinates are one place.
+pub fn same_place(place: World, other: World) -> bool
     ensures { λ r. ⌜ r ≡ samePlace place other ⌝ }
 {
     if place.0 == other.0 {

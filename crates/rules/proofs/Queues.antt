@@ -37,7 +37,7 @@ module _ (l : List ForcedPosition) (e : ForcedPosition) where
   unfolding withPosition
   with-new h = pick-no (isQueued (e .coordinates) l) l (l ++ (e ∷ [])) h
 
-  one-grows : length l ≤ length (withPosition l e)
+  pub one-grows : length l ≤ length (withPosition l e)
   one-grows =
       by-test (isQueued (e .coordinates) l) (λ h. rw (with-old h) (omega arith))
       (λ h. rw (with-new h) (omega (arith, length-append l (e ∷ []))))
