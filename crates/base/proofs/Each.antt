@@ -6,13 +6,10 @@ use mathlib.Core.Bool.{Bool, true}
 use mathlib.Core.List.{List, [], _∷_, _++_}
 use native.Mathlib.Nat.{le-step, lt-suc-self}
 use Rattle.base.specs.Tables.{those}
+pub use Rattle.base.specs.Tables.{Each}
 use Rattle.base.proofs.Bools.{by-test}
 
 module _ {A : Type 0} where
-  abbrev pub Each : (A → Type 0) → List A → Type 0
-  Each P [] = Unit
-  Each P (x ∷ l) = P x × Each P l
-
   pub each-more : (P : A → Type 0) (l m : List A) → Each P l → Each P m → Each P (l ++ m)
   each-more P [] m h k = k
   each-more P (x ∷ l) m (p, h) k = (p, each-more P l m h k)

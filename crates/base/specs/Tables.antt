@@ -1,4 +1,4 @@
--- Lists given by a rule for each place, and folds along a list.
+-- Lists given by a rule for each place, folds along a list, and what holds of each entry of one.
 use Prim.Native.Nat.{ℕ, zero, suc}
 use mathlib.Core.Bool.{Bool}
 use mathlib.Core.List.{List, [], _∷_, _++_}
@@ -18,3 +18,8 @@ those (suc n) test f = those n test f ++ pick (test n) (f n ∷ []) []
 unfoldable pub fold : {A B : Type 0} → (A → B → A) → A → List B → A
 fold f a [] = a
 fold f a (x ∷ xs) = fold f (f a x) xs
+
+-- a fact of each entry
+abbrev pub Each : {A : Type 0} → (A → Type 0) → List A → Type 0
+Each P [] = Unit
+Each P (x ∷ l) = P x × Each P l

@@ -65,7 +65,7 @@ fn admitted(bounds: GenerationBounds, place: World) -> bool
 }
 
 // The corners of the box, if one is given, are on the wall.
-fn bounds_fit(bounds: GenerationBounds) -> bool
+pub fn bounds_fit(bounds: GenerationBounds) -> bool
     ensures { λ r. ⌜ r ≡ boundsFit bounds ⌝ }
 {
     let GenerationBounds::Within(corners) = bounds else {
@@ -76,7 +76,7 @@ fn bounds_fit(bounds: GenerationBounds) -> bool
 
 // The only colour that a bare cell lists, 0 where there is none or more than one, or where the cell is laid. The listing is no refusal,
 // since the checks are made; were it one, no colour would be forced there.
-fn only_colour_at(
+pub fn only_colour_at(
     pieces: &[u32],
     rows: usize,
     cols: usize,

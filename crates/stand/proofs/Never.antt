@@ -230,7 +230,7 @@ module _ (j : Panel) (w : World) (count : ℕ) where
 
 -- ---- what runs of several parts ask
 
-may-both : (kind : Kind) (some others : List Act) → Widenable kind some → Widenable kind others → Widenable kind (some ++ others)
+pub may-both : (kind : Kind) (some others : List Act) → Widenable kind some → Widenable kind others → Widenable kind (some ++ others)
 may-both kind [] others may more = more
 may-both kind (call c ∷ some) others may more = may-both kind some others may more
 may-both kind (widen count p lent ∷ some) others (widens, may) more = (widens, may-both kind some others may more)

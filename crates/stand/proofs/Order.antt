@@ -38,7 +38,7 @@ abbrev May : Panel → List ℕ → ℕ → Type 0
 May j p count = (k : ℕ) → k < j .rows * j .cols → laidOn p k ≡ true → Named (j .tiles) count × (piecesStored p count ≡ true)
 
 -- a panel with the board that its pieces say
-abbrev withPieces : Panel → List ℕ → State
+abbrev pub withPieces : Panel → List ℕ → State
 withPieces j p = record { panel = j; board = ofPieces j p }
 
 module _ (j : Panel) (count : ℕ) where
@@ -49,11 +49,11 @@ module _ (j : Panel) (count : ℕ) where
   cell x = entryIn j (x .place)
 
   -- each of these lays is taken, from the pieces q on, and they leave the pieces r
-  abbrev Lays : List ℕ → List Piece → List ℕ → Type 0
+  abbrev pub Lays : List ℕ → List Piece → List ℕ → Type 0
   Lays q [] r = q ≡ r
   Lays q (x ∷ xs) r = Taken j q (laying x) × Lays (puts j q (laying x)) xs r
 
-  then-lays : (q : List ℕ) (xs : List Piece) (r : List ℕ) (ys : List Piece) (s : List ℕ) → Lays q xs r → Lays r ys s → Lays q (xs ++ ys) s
+  pub then-lays : (q : List ℕ) (xs : List Piece) (r : List ℕ) (ys : List Piece) (s : List ℕ) → Lays q xs r → Lays r ys s → Lays q (xs ++ ys) s
   then-lays q [] r ys s e l = subst (λ (m : List ℕ). Lays m ys s) (sym e) l
   then-lays q (x ∷ xs) r ys s (t, k) l = (t, then-lays (puts j q (laying x)) xs r ys s k l)
 
@@ -171,7 +171,7 @@ module _ (j : Panel) (count : ℕ) where
 
   -- ---- as a run
 
-  as-run : Sound (shapeOf j) → (q : List ℕ) (xs : List Piece) (r : List ℕ) → Good j q → Lays q xs r
+  pub as-run : Sound (shapeOf j) → (q : List ℕ) (xs : List Piece) (r : List ℕ) → Good j q → Lays q xs r
       → (acceptedIn (withPieces j q) (lays count xs) ≡ lays count xs) × (run (withPieces j q) (lays count xs) ≡ withPieces j r)
   unfolding acceptedIn run fold lays
   as-run sound q [] r good e = (refl, ap (withPieces j) e)

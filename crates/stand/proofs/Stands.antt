@@ -101,7 +101,7 @@ module _ (j : Panel) where
   abbrev pub opening : Plan
   opening = record { panel = j; wall = λ v. bare }
 
-  opening-fine : Fine j opening
+  pub opening-fine : Fine j opening
   opening-fine =
       record {
         kind = refl;
@@ -119,12 +119,12 @@ module _ (j : Panel) where
   pub plan-fine : (acts : List Act) → Fine j (movedBy opening acts)
   plan-fine acts = run-fine opening acts opening-fine
 
-  start-is : start j ≡ stateAt opening
+  pub start-is : start j ≡ stateAt opening
   unfolding piecesOn
   start-is = ap (λ (b : Board). record { panel = j; board = b }) (fresh-of j)
 
 module _ (j : Panel) (sound : SoundKind (j .kind)) where
-  run-is : (t : Plan) (acts : List Act) → Fine j t → Widenable (j .kind) acts → run (stateAt t) acts ≡ stateAt (movedBy t acts)
+  pub run-is : (t : Plan) (acts : List Act) → Fine j t → Widenable (j .kind) acts → run (stateAt t) acts ≡ stateAt (movedBy t acts)
   unfolding run fold
   run-is t [] fine may = refl
   run-is t (a ∷ acts) fine may =

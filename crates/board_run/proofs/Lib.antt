@@ -1,0 +1,4 @@
+pub mod Going
+pub mod Showing
+pub mod Leaning
+pub mod Looping
