@@ -1,10 +1,9 @@
 -- What lay and lift lean on once the checks of the planes and of the place have passed.
---     contents-by     the contents, by the number of tiles that `tile_number` answers
 --     movable        what the rule beneath the checks asks of the board, the cell and the spans round it
 --     colour-low      a colour that may be laid is a colour of the count, and the count is in bounds
 -- Assumes nothing.
 use Prim.Native.Nat.{ℕ, _≤_}
-use mathlib.Core.Path.{_≡_, refl, sym, _∙_, ap}
+use mathlib.Core.Path.{_≡_, refl, sym}
 use mathlib.Core.Bool.{true}
 use mathlib.Core.List.{List}
 use native.Mathlib.Omega.{arith}
@@ -13,11 +12,10 @@ use Rattle.base.specs.Refusal.{refusal}
 use Rattle.base.proofs.Numbers.{within-high}
 use Rattle.base.proofs.Chain.{Passes, all-pass}
 use Rattle.rules.specs.Bounds.{maxColours, maxWeight}
-use Rattle.rules.specs.Tests.{boardSides, tilesIn, colourCount, noneAbove, onBoard}
+use Rattle.rules.specs.Tests.{boardSides, colourCount, noneAbove, onBoard}
 use Rattle.rules.specs.Places.{cellOf}
-use Rattle.rules.specs.Tiles.{tilesCounted}
 use Rattle.rules.specs.Fit.{piecesChecks, placeChecks}
-use Rattle.rules.specs.Board.{Board, boardContents, boardChecks, layingChecks}
+use Rattle.rules.specs.Board.{boardChecks, layingChecks}
 use Rattle.rules.specs.Promises.{board, panel}
 use Rattle.rules.specs.declared.World.{World}
 use Rattle.rules.specs.declared.Offset.{Offset}
@@ -25,20 +23,13 @@ use Rattle.rules.specs.declared.Cell.{Cell}
 use Rattle.rules.specs.declared.Span.{Span}
 use Rattle.rules.specs.declared.SpanAnswer.{SpanAnswer}
 use Rattle.rules.specs.declared.SpanAnswer.the-variants.{Spans}
-use Rattle.rules.specs.declared.TileNumber.{TileNumber}
-use Rattle.rules.specs.declared.TileNumber.the-variants.{Tiles}
 use Rattle.check_sizes.proofs.Sides.{none-above, count-most}
-use Rattle.check_sizes.proofs.Tiled.{so-many}
 use Rattle.places.proofs.Indices.{placed}
 use Rattle.fit_windows.proofs.Accepted.{ready-from}
 use Rattle.board_near.specs.Near.{nearSpans}
 use Rattle.board_near.proofs.Leaning.{on-plane}
 use Rattle.board_near.proofs.Placing.{place-passes, nearby}
 use Rattle.board_moves.specs.Movable.{Movable}
-
-pub contents-by : (tiles : List ℕ) (count : ℕ) (b : Board) (a : TileNumber) (x : ℕ) → a ≡ Tiles x → a ≡ tilesCounted tiles
-    → (m : ℕ) → m ≡ refusal (boardContents tiles count b x) → m ≡ refusal (boardContents tiles count b (tilesIn tiles))
-contents-by tiles count b a x y t m e = e ∙ ap (λ (n : ℕ). refusal (boardContents tiles count b n)) (so-many tiles a t x y)
 
 module _ (pieces weights counts : List ℕ) (rows cols : ℕ) (tiles : List ℕ) (count : ℕ) (o : Offset)
     (e : 0 ≡ refusal (boardChecks (panel rows cols tiles o) count (board pieces weights counts))) where

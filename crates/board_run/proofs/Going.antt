@@ -9,10 +9,8 @@ use mathlib.Core.Bool.{Bool, true, false, _&&_}
 use mathlib.Core.Logic.{⊎-elim}
 use mathlib.Core.List.{List, [], _∷_}
 use native.Mathlib.Omega.{arith}
-use lib.Dec.{eqb}
-use lib.ListN.{length, getD, set, length-set}
-use lib.Seq.{getD-set-same, getD-set-other}
-use borrow.Author.Tests.{eqb-true, eqb-false}
+use lib.ListN.{length, getD}
+use borrow.Author.Tests.{eqb-true}
 use Rattle.base.specs.Tables.{those, Each}
 use Rattle.base.proofs.Bools.{by-test, and-left, and-right}
 use Rattle.base.proofs.Numbers.{lt-or-le}
@@ -32,6 +30,7 @@ use Rattle.rules.specs.declared.ForcedPosition.{ForcedPosition}
 use Rattle.rules.proofs.Shares.{share-le}
 use Rattle.rules.proofs.Queues.{each-with, each-forced}
 use Rattle.rules.proofs.ForcedRun.{queuedBy, layingOf, added-room, added-full, laid-then, dropped-then, by-step}
+use Rattle.fit_windows.proofs.Accepted.{set-countable}
 use Rattle.board_run.specs.Running.{Going}
 
 -- ---- the colour of an entry
@@ -96,19 +95,7 @@ module _ (j : Panel) (count : ℕ) where
         record {
           ready =
               record {
-                tried =
-                    record {
-                      board =
-                          record {
-                            tall = g .ready .tried .board .tall;
-                            wide = g .ready .tried .board .wide;
-                            plane = length-set (b .pieces) k (colour + 1) ∙ g .ready .tried .board .plane;
-                            least = λ i i<. piece-in i i< .0;
-                            most = λ i i<. piece-in i i< .1;
-                          };
-                      whole = g .ready .tried .whole;
-                      few = g .ready .tried .few;
-                    };
+                tried = set-countable (b .pieces) (j .rows) (j .cols) k (colour + 1) (omega arith) (omega arith) (j .tiles) (g .ready .tried);
                 colours = g .ready .colours;
                 known = g .ready .known;
               };
@@ -119,21 +106,6 @@ module _ (j : Panel) (count : ℕ) where
           on = g .on;
         }
       where
-        piece-in : (i : ℕ) → i < length (set (b .pieces) k (colour + 1))
-            → (1 ≤ getD (set (b .pieces) k (colour + 1)) i 0) × (getD (set (b .pieces) k (colour + 1)) i 0 ≤ maxColours + 1)
-        piece-in i i< =
-            let i<p : i < length (b .pieces) = omega (arith, length-set (b .pieces) k (colour + 1)) in
-            by-test (eqb i k)
-            (λ e.
-            let same : i ≡ k = eqb-true i k e in
-            let here : getD (set (b .pieces) k (colour + 1)) i 0 ≡ colour + 1 =
-            rw same (getD-set-same (b .pieces) k (colour + 1) 0 (omega arith)) in
-            (omega arith, omega arith))
-            (λ e.
-            let there : getD (set (b .pieces) k (colour + 1)) i 0 ≡ getD (b .pieces) i 0 =
-            getD-set-other (b .pieces) k i (colour + 1) 0 (eqb-false i k e) in
-            (omega (arith, g .ready .tried .board .least i i<p), omega (arith, g .ready .tried .board .most i i<p)))
-
         weight-in : (i : ℕ) → i < length (b .weights) → getD (raised (shapeOf j) k (b .weights)) i 0 ≤ maxWeight + 3 * (taken + 1)
         weight-in i i< =
             let here : getD (raised (shapeOf j) k (b .weights)) i 0 ≡ getD (b .weights) i 0 + reach (shapeOf j) k i =
