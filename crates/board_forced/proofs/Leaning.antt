@@ -32,8 +32,7 @@ pub leans : (j : Panel) (count : ℕ) (b : Board) (place : World) (bounds : Gene
 leans j count b place bounds budget e =
     let h = all-pass (runChecks j count b place bounds budget) refl (sym e) in
     let y : Passes (piecesChecks (b .pieces) (j .rows) (j .cols) (j .tiles) count) = search in
-    let low : noneAbove (b .weights) maxWeight ≡ true = search in
-    (
+    let low : noneAbove (b .weights) maxWeight ≡ true = search in (
       record {
         ready = ready-from (b .pieces) (j .rows) (j .cols) (j .tiles) count y;
         weights = long (b .weights) (j .rows * j .cols) (search);

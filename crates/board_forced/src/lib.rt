@@ -58,16 +58,7 @@ fn run_refused(
     if budget > rules::MAX_BUDGET {
         return rules::SHAPE;
     }
-    let no = board_refused(
-        pieces,
-        weights,
-        counts,
-        rows,
-        cols,
-        tiles,
-        count,
-        offset,
-    );
+    let no = board_refused(pieces, weights, counts, rows, cols, tiles, count, offset);
     if no != 0 {
         return no;
     }

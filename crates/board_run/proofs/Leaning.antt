@@ -49,9 +49,11 @@ cell-on rows cols w o on cell e = rw e record { rowwise = row-below rows cols w 
 pub found-few : (j : Panel) (count : ℕ) (bounds : GenerationBounds) (b : Board) (place : World) (found : ForcedPositions)
     → found ≡ positionsOf (forcedBy j count bounds b place) → found .len ≤ addedRoom
 found-few j count bounds b place found e =
-    omega
-    (arith, length-found found (forcedBy j count bounds b place) e,
-    forced-few (j .kind) (b .pieces) (j .rows) (j .cols) (j .tiles) count place (j .offset) bounds)
+    omega (
+      arith,
+      length-found found (forcedBy j count bounds b place) e,
+      forced-few (j .kind) (b .pieces) (j .rows) (j .cols) (j .tiles) count place (j .offset) bounds,
+    )
 
 module _ (j : Panel) (count : ℕ) (b : Board) (l : List ForcedPosition) (taken : ℕ) (g : Going j count b l taken) (w : World)
     (on : onBoard (j .rows) (j .cols) w (j .offset) ≡ true) where

@@ -33,6 +33,8 @@ use Rattle.rules.specs.declared.LiftAnswer.{LiftAnswer}
 use Rattle.rules.specs.declared.LiftAnswer.the-variants as LiftAnswer·
 use Rattle.rules.specs.declared.WidenAnswer.{WidenAnswer}
 use Rattle.rules.specs.declared.WidenAnswer.the-variants as WidenAnswer·
+use Rattle.rules.specs.declared.RunAnswer.{RunAnswer}
+use Rattle.rules.specs.declared.RunAnswer.the-variants as RunAnswer·
 
 -- r is the number of the answer of which, and of what the call leaves, its promise holds
 pub record Numbered {A B : Type 0} (number : A → ℕ) (promise : A → B → Type 0) (r : ℕ) (left : B) : Type 0 where
@@ -63,6 +65,25 @@ widenLeft (WidenAnswer·.Refused n) out = out
 
 abbrev pub TellsWidening : WidenAnswer → List ℤ → ℕ → List ℤ → Type 0
 TellsWidening answer out = Gives (widenNumber answer) (widenLeft answer out)
+
+-- a forced run: how it ended (0 done, 1 spent, 2 full), how many entries were taken, and how many laid
+abbrev pub runNumber : RunAnswer → ℕ
+runNumber (RunAnswer·.Done taken laid) = 0
+runNumber (RunAnswer·.Spent taken laid) = 0
+runNumber (RunAnswer·.Full taken laid) = 0
+runNumber (RunAnswer·.Refused n) = n
+
+abbrev pub ranStored : ℕ → ℕ → ℕ → List ℕ → List ℕ
+ranStored end taken laid out = put (put (put out 0 end) 1 taken) 2 laid
+
+abbrev pub runLeft : RunAnswer → List ℕ → List ℕ
+runLeft (RunAnswer·.Done taken laid) out = ranStored 0 taken laid out
+runLeft (RunAnswer·.Spent taken laid) out = ranStored 1 taken laid out
+runLeft (RunAnswer·.Full taken laid) out = ranStored 2 taken laid out
+runLeft (RunAnswer·.Refused n) out = out
+
+abbrev pub TellsRun : RunAnswer → List ℕ → ℕ → List ℕ → Type 0
+TellsRun answer out = Gives (runNumber answer) (runLeft answer out)
 
 -- a set: its bits, then its size
 abbrev pub setStored : TileBitset → List ℕ → List ℕ

@@ -1,11 +1,13 @@
-// Answers that cross to another language with 64-bit numbers or a float: how many, a cell, spans, a fraction; as `boundary` says.
+// Answers that cross to another language with 64-bit numbers or a float: how many, how a run ended, a cell, spans, a fraction; as `boundary` says.
+ghost use mathlib.Core.Path.{_≡_};
 ghost use Rattle.rules.specs.Promises.{before, after};
-ghost use Rattle.boundary.specs.Boundary.{TellsCount, TellsFraction, TellsSpans, TellsTiles, TellsDeadEnd};
+ghost use Rattle.boundary.specs.Boundary.{ranStored, TellsCount, TellsFraction, TellsSpans, TellsTiles, TellsDeadEnd, TellsRun};
 use boundary_slots::put_float;
 use boundary_slots::put_long;
 use rules::CountAnswer;
 use rules::DeadEnd;
 use rules::FractionAnswer;
+use rules::RunAnswer;
 use rules::SpanAnswer;
 use rules::TileNumber;
 
@@ -75,5 +77,33 @@ pub fn spanned(answer: SpanAnswer, out: &mut [u64]) -> u32
             0
         }
         SpanAnswer::Refused(n) => n as u32,
+    }
+}
+
+fn put_run(out: &mut [u64], end: u64, taken: usize, laid: usize)
+    ensures { λ _. ⌜ after out ≡ ranStored end taken laid (before out) ⌝ }
+{
+    put_long(out, 0, end);
+    put_long(out, 1, taken as u64);
+    put_long(out, 2, laid as u64);
+}
+
+pub fn ran(answer: RunAnswer, out: &mut [u64]) -> u32
+    ensures { λ r. ⌜ TellsRun answer (before out) r (after out) ⌝ }
+{
+    match answer {
+        RunAnswer::Done(taken, laid) => {
+            put_run(out, 0, taken, laid);
+            0
+        }
+        RunAnswer::Spent(taken, laid) => {
+            put_run(out, 1, taken, laid);
+            0
+        }
+        RunAnswer::Full(taken, laid) => {
+            put_run(out, 2, taken, laid);
+            0
+        }
+        RunAnswer::Refused(n) => n as u32,
     }
 }

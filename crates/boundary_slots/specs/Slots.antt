@@ -5,9 +5,12 @@ use mathlib.Core.Bool.{Bool, true, false}
 use mathlib.Core.List.{List}
 use lib.ListN.{set}
 use lib.IntN.{ℤ}
+use Rattle.base.specs.Counting.{pick}
 use Rattle.rules.specs.declared.World.{World}
 use Rattle.rules.specs.declared.Offset.{Offset}
 use Rattle.rules.specs.declared.Pads.{Pads}
+use Rattle.rules.specs.declared.GenerationBounds.{GenerationBounds}
+use Rattle.rules.specs.declared.GenerationBounds.the-variants.{Unbounded, Within}
 use Rattle.rules.specs.declared.TileBitset.{TileBitset}
 
 -- ---- what goes in
@@ -17,6 +20,10 @@ world row col = record { 0 = row; 1 = col }
 
 abbrev pub offsetBy : ℤ → ℤ → Offset
 offsetBy row col = record { 0 = row; 1 = col }
+
+-- the box of two corners, or none
+unfoldable pub boundsFrom : Bool → World → World → GenerationBounds
+boundsFrom within least most = pick within (Within (record { min = least; max = most })) Unbounded
 
 -- left and right are added to the rows, top and bottom to the columns
 abbrev pub padsBy : ℕ → ℕ → ℕ → ℕ → Pads

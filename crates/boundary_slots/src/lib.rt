@@ -1,8 +1,10 @@
 // What every crossing to another language uses: a value put into an entry of a lent slice, a place or an offset taken from its two numbers,
-// an offset put into two entries, a truth as 0 or 1. An entry past the end of such a slice is not stored.
+// a box from its corners, an offset put into two entries, a truth as 0 or 1. An entry past the end of such a slice is not stored.
 ghost use mathlib.Core.Path.{_≡_};
 ghost use Rattle.rules.specs.Promises.{before, after};
-ghost use Rattle.boundary_slots.specs.Slots.{put, world, offsetBy, offsetStored, digitOf};
+ghost use Rattle.boundary_slots.specs.Slots.{put, world, offsetBy, boundsFrom, offsetStored, digitOf};
+use rules::BoundingBox;
+use rules::GenerationBounds;
 use rules::Offset;
 use rules::World;
 
@@ -63,6 +65,20 @@ pub fn offset_at(row: i32, col: i32) -> Offset
     ensures { λ r. ⌜ r ≡ offsetBy row col ⌝ }
 {
     Offset(row, col)
+}
+
+// A box that is given by its corners, or none.
+pub fn bounds_from(within: bool, least: World, most: World) -> GenerationBounds
+    ensures { λ r. ⌜ r ≡ boundsFrom within least most ⌝ }
+{
+    if within {
+        let corners = BoundingBox {
+            min: least,
+            max: most,
+        };
+        return GenerationBounds::Within(corners);
+    }
+    GenerationBounds::Unbounded
 }
 
 pub fn digit(truth: bool) -> u32

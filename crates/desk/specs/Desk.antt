@@ -7,12 +7,14 @@ use Rattle.rules.specs.Grid.{flat}
 use Rattle.rules.specs.Fit.{listing}
 use Rattle.rules.specs.Board.{Board}
 use Rattle.rules.specs.Widening.{widening, afterWiden}
+use Rattle.rules.specs.ForcedRun.{running, afterRun}
 use Rattle.rules.specs.Promises.{panel, Lays, Lifts}
 use Rattle.rules.specs.declared.Pads.{Pads}
+use Rattle.rules.specs.declared.GenerationBounds.{GenerationBounds}
 use Rattle.rules.specs.declared.Listing.{Listing}
 use Rattle.rules.specs.declared.Listing.the-variants as Listing·
 use Rattle.boundary_slots.specs.Slots.{put, world, offsetBy}
-use Rattle.boundary.specs.Boundary.{Numbered, listingNumber, layNumber, liftNumber, widenNumber, widenLeft}
+use Rattle.boundary.specs.Boundary.{Numbered, listingNumber, layNumber, liftNumber, runNumber, runLeft, widenNumber, widenLeft}
 
 -- what a listing leaves in the entries lent for it: the set of colours in the first, colour t as bit t-1; nothing where it is refused
 abbrev pub coloursLeft : Listing → List ℕ → List ℕ
@@ -33,6 +35,20 @@ DeskLays rows cols tiles count row col down across colour old =
 abbrev pub DeskLifts : ℕ → ℕ → List ℕ → ℕ → ℤ → ℤ → ℤ → ℤ → Board → ℕ → Board → Type 0
 DeskLifts rows cols tiles count row col down across old =
     Numbered liftNumber (Lifts (panel rows cols tiles (offsetBy down across)) count (world row col) old)
+
+-- what is lent to a forced run: the planes, and the entries for how it ended
+pub record Ran : Type 0 where
+  pub planes : Board
+  pub ran : List ℕ
+
+abbrev pub ranWith : Board → List ℕ → Ran
+ranWith planes ran = record { planes = planes; ran = ran }
+
+abbrev pub DeskRuns : ℕ → ℕ → List ℕ → ℕ → ℤ → ℤ → ℤ → ℤ → GenerationBounds → ℕ → Board → List ℕ → ℕ → Ran → Type 0
+DeskRuns rows cols tiles count row col down across bounds budget old out =
+    let j = panel rows cols tiles (offsetBy down across) in
+    let answer = running j count old (world row col) bounds budget in
+    Gives (runNumber answer) (ranWith (afterRun j count old (world row col) bounds budget) (runLeft answer out))
 
 -- what is lent to a widening: the larger planes, and the entries for its offset
 pub record Larger : Type 0 where

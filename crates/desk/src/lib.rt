@@ -1,12 +1,13 @@
-// The functions of the desk program, which is C: fitting colours, lay, lift and widening on numbers, byte tiles and u32 planes. include/desk.h is
-// their C side, for the C programmer; a place goes over as a row and a column on the wall, the offset likewise, each answer is 0 or
-// document 01's refusal number.
+// The functions of the desk program, which is C: fitting colours, lay, lift, the forced run and widening on numbers, byte tiles and u32
+// planes. include/desk.h is their C side, for the C programmer; a place goes over as a row and a column on the wall, the offset likewise,
+// each answer is 0 or document 01's refusal number.
 ghost use Rattle.rules.specs.Promises.{before, after, boardBefore, boardAfter};
-ghost use Rattle.boundary_slots.specs.Slots.{padsBy};
-ghost use Rattle.desk.specs.Desk.{TellsColours, DeskLists, DeskLays, DeskLifts, DeskWidens, larger};
+ghost use Rattle.boundary_slots.specs.Slots.{world, boundsFrom, padsBy};
+ghost use Rattle.desk.specs.Desk.{TellsColours, DeskLists, DeskLays, DeskLifts, DeskRuns, ranWith, DeskWidens, larger};
 use boundary::laid;
 use boundary::lifted;
 use boundary::widened;
+use boundary_slots::bounds_from;
 use boundary_slots::offset_at;
 use boundary_slots::put_long;
 use boundary_slots::world_at;
@@ -122,6 +123,53 @@ pub extern "C" fn desk_lift(
         offset,
     );
     lifted(answer)
+}
+
+// How the run ended goes into the first entry of `ran`, 0 done, 1 spent, 2 full; then how many entries were taken, and how many laid. The
+// corners are read only within a box.
+#[no_mangle]
+pub extern "C" fn desk_forced_run(
+    pieces: &mut [u32],
+    weights: &mut [u32],
+    counts: &mut [u32],
+    rows: usize,
+    cols: usize,
+    tiles: &[u8],
+    count: u32,
+    row: i32,
+    col: i32,
+    down: i32,
+    across: i32,
+    within: bool,
+    minrow: i32,
+    mincol: i32,
+    maxrow: i32,
+    maxcol: i32,
+    budget: usize,
+    ran: &mut [u64],
+) -> u32
+    ensures { λ r. ⌜ DeskRuns rows cols (before tiles) count row col down across (boundsFrom within (world minrow mincol) (world maxrow maxcol)) budget
+        (boardBefore pieces weights counts) (before ran) r (ranWith (boardAfter pieces weights counts) (after ran)) ⌝ }
+{
+    let place = world_at(row, col);
+    let offset = offset_at(down, across);
+    let least = world_at(minrow, mincol);
+    let most = world_at(maxrow, maxcol);
+    let bounds = bounds_from(within, least, most);
+    let answer = board_forced::forced_run(
+        pieces,
+        weights,
+        counts,
+        rows,
+        cols,
+        tiles,
+        count,
+        place,
+        offset,
+        bounds,
+        budget,
+    );
+    boundary_longs::ran(answer, ran)
 }
 
 // The board goes into three larger planes, and the new offset into the first two entries of `offset`: rows, then columns.

@@ -61,10 +61,6 @@ queueIn s = queueFrom (s .coordinates) (s .colours) (getD (s .len) 0 0)
 unfoldable pub positionsFrom : List ℤ → List ℕ → ℕ → ForcedPositions
 positionsFrom coordinates colours len = record { entries = tab addedRoom (entryAt coordinates colours); len = len }
 
--- the box of two corners, or none
-unfoldable pub boundsFrom : Bool → World → World → GenerationBounds
-boundsFrom within least most = pick within (Within (record { min = least; max = most })) Unbounded
-
 -- ---- what comes back
 
 -- the place of an entry stored as entry i

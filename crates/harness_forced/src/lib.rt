@@ -2,11 +2,12 @@
 // and tells its answer as crate boundary does. Positions cross as specs/Slices.antt has them.
 ghost use Rattle.rules.specs.Forced.{queueEmpty, queueLength};
 ghost use Rattle.rules.specs.Promises.{before, after};
-ghost use Rattle.boundary_slots.specs.Slots.{world, offsetBy};
+ghost use Rattle.boundary_slots.specs.Slots.{world, offsetBy, boundsFrom};
 ghost use Rattle.boundary.specs.Boundary.{TellsVerdict, TellsCount};
-ghost use Rattle.harness_forced.specs.Slices.{queueFrom, positionsFrom, boundsFrom, PortForces, PortAdds, PortTakes};
+ghost use Rattle.harness_forced.specs.Slices.{queueFrom, positionsFrom, PortForces, PortAdds, PortTakes};
 use boundary::judged;
 use boundary_longs::counted;
+use boundary_slots::bounds_from;
 use boundary_slots::offset_at;
 use boundary_slots::world_at;
 
@@ -40,7 +41,7 @@ pub extern "C" fn port_forced(
     let offset = offset_at(down, across);
     let least = world_at(minrow, mincol);
     let most = world_at(maxrow, maxcol);
-    let bounds = slices::bounds_from(within, least, most);
+    let bounds = bounds_from(within, least, most);
     let answer = fit_forced::detect_forced_positions(
         pieces,
         rows,

@@ -8,16 +8,14 @@ ghost use Rattle.base.specs.Refusal.{Gives};
 ghost use Rattle.rules.specs.Promises.{before, after};
 ghost use Rattle.boundary_slots.specs.Slots.{put};
 ghost use Rattle.boundary.specs.Boundary.{writtenNumber};
-ghost use Rattle.harness_forced.specs.Slices.{entryAt, queueFrom, positionsFrom, boundsFrom, slicesBefore, slicesAfter};
+ghost use Rattle.harness_forced.specs.Slices.{entryAt, queueFrom, positionsFrom, slicesBefore, slicesAfter};
 ghost use Rattle.harness_forced.specs.Slices.{placeStored, queueStored, positionsStored, addedLeft, TellsNext, foundLeft};
 use boundary_slots::put_long;
 use boundary_slots::put_signed;
 use boundary_slots::put_word;
-use rules::BoundingBox;
 use rules::ForcedPipeline;
 use rules::ForcedPosition;
 use rules::ForcedPositions;
-use rules::GenerationBounds;
 use rules::Next;
 use rules::World;
 use rules::Written;
@@ -137,20 +135,6 @@ pub fn put_positions(
         i += 1;
     }
     put_long(len, 0, positions.len as u64);
-}
-
-// A box that is given by its corners, or none.
-pub fn bounds_from(within: bool, least: World, most: World) -> GenerationBounds
-    ensures { λ r. ⌜ r ≡ boundsFrom within least most ⌝ }
-{
-    if within {
-        let corners = BoundingBox {
-            min: least,
-            max: most,
-        };
-        return GenerationBounds::Within(corners);
-    }
-    GenerationBounds::Unbounded
 }
 
 // What adding answers: the queue as it is then goes back, unless the call is refused.

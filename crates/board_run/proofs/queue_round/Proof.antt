@@ -19,8 +19,7 @@ forced-round-requires c κs = search needs
 add-positions-requires : tie.Need-add-positions-requires
 add-positions-requires c κs =
     let s = c .before .before .before .before .before .before in
-    let a = s .args in
-    (
+    let a = s .args in (
       s .pre .1,
       found-few (panel (a .rows) (a .cols) (a .tiles .now) (a .offset)) (a .count) (a .bounds) (board (a .pieces .now) (a .pieces .now) (a .pieces .now)) (a .place) _
           (c .before .before .before .forced-round .ensures),
@@ -34,28 +33,26 @@ enum-told c = search needs
 
 returns : tie.Need-returns
 returns c =
-    let a = c .before .before .before .before .before .before .before .before .before .args in
-    (
+    let a = c .before .before .before .before .before .before .before .before .before .args in (
       refl,
       refl,
       λ s same shown.
-      shows-full (panel (a .rows) (a .cols) (a .tiles .now) (a .offset)) (a .count) (a .bounds) (a .place) s _ _ (a .state) shown _
-      (c .before .before .before .before .before .before .forced-round .ensures
-      ∙ ap (λ (p : List ℕ). positionsOf (forcedRound flat p (a .rows) (a .cols) (a .tiles .now) (a .count) (a .place) (a .offset) (a .bounds))) (sym same))
-      _ (c .before .before .add-positions .ensures) _ (c .enum-told .given .1),
+          shows-full (panel (a .rows) (a .cols) (a .tiles .now) (a .offset)) (a .count) (a .bounds) (a .place) s _ _ (a .state) shown _
+          (c .before .before .before .before .before .before .forced-round .ensures
+          ∙ ap (λ (p : List ℕ). positionsOf (forcedRound flat p (a .rows) (a .cols) (a .tiles .now) (a .count) (a .place) (a .offset) (a .bounds))) (sym same))
+          _ (c .before .before .add-positions .ensures) _ (c .enum-told .given .1),
     )
 
 returns-2 : tie.Need-returns-2
 returns-2 c =
-    let a = c .before .before .before .before .before .before .before .before .before .before .args in
-    (
+    let a = c .before .before .before .before .before .before .before .before .before .before .args in (
       refl,
       refl,
       λ s same shown.
-      shows-room (panel (a .rows) (a .cols) (a .tiles .now) (a .offset)) (a .count) (a .bounds) (a .place) s _ _ (a .state) shown _
-      (c .before .before .before .before .before .before .before .forced-round .ensures
-      ∙ ap (λ (p : List ℕ). positionsOf (forcedRound flat p (a .rows) (a .cols) (a .tiles .now) (a .count) (a .place) (a .offset) (a .bounds))) (sym same))
-      _ (c .before .before .before .add-positions .ensures) _ (c .before .len .given .1),
+          shows-room (panel (a .rows) (a .cols) (a .tiles .now) (a .offset)) (a .count) (a .bounds) (a .place) s _ _ (a .state) shown _
+          (c .before .before .before .before .before .before .before .forced-round .ensures
+          ∙ ap (λ (p : List ℕ). positionsOf (forcedRound flat p (a .rows) (a .cols) (a .tiles .now) (a .count) (a .place) (a .offset) (a .bounds))) (sym same))
+          _ (c .before .before .before .add-positions .ensures) _ (c .before .len .given .1),
     )
 
 pub queue-round-spec : {M : Type 1} → statement M

@@ -38,13 +38,12 @@ same-length c = search needs
 
 returns : tie.Need-returns
 returns c =
-    let t = c .before .before .before .before .before .before .before .before .before .before .before .before .before .before .pre in
-    (
+    let t = c .before .before .before .before .before .before .before .before .before .before .before .before .before .before .pre in (
       refl,
       omega arith,
       λ s shown.
-      shows-dropped _ _ _ s _ _ _ shown (t .waits) (t .free) _ (c .before .before .before .before .before .slot-of .ensures .0) _ (c .before .before .before .before .before .before .entry-in .ensures)
-      (fails _ (c .before .still-forced .ensures _ _) (c .if1 .taken)),
+          shows-dropped _ _ _ s _ _ _ shown (t .waits) (t .free) _ (c .before .before .before .before .before .slot-of .ensures .0) _ (c .before .before .before .before .before .before .entry-in .ensures)
+          (fails _ (c .before .still-forced .ensures _ _) (c .if1 .taken)),
     )
 
 -- the entry was found still forced, so its colour is one that may be laid
@@ -71,8 +70,7 @@ add-t34 c =
 queue-round-requires : tie.Need-queue-round-requires
 queue-round-requires c κs =
     let s = c .before .before .before .before .before .before .before .before .before .before .before .before .before .before .before .before .before .before .before .before .before .before .before .before .before .before .before .before .before .before in
-    let on = first-on _ _ _ _ _ (s .pre) _ (c .before .before .before .before .before .before .before .before .before .before .before .before .before .before .before .before .before .before .before .before .before .before .entry-in .ensures) in
-    (
+    let on = first-on _ _ _ _ _ (s .pre) _ (c .before .before .before .before .before .before .before .before .before .before .before .before .before .before .before .before .before .before .before .before .before .before .entry-in .ensures) in (
       record {
         ready = laid-ready _ _ _ _ _ (s .pre .going) _ _ (low (c .before .before .before .before .before .before .before .before .before .before .before .before .before .before .before .before) .1) _ (c .before .before .before .before .before .before .before .before .before .before .before .before .lay-entry .ensures);
         walled = walled _ _ _ _ _ (s .pre .going) _ on;
@@ -97,15 +95,14 @@ returns-2 c =
     let round = c .queue-round .ensures in
     let next = c .before .before .before .before .before .before .before .before .before .before .before .before .before .before .before .before .before .before .before .before .before .before .slot-of .ensures .0 in
     let out = c .before .before .before .before .before .before .before .before .before .before .before .before .before .before .before .before .before .before .before .before .before .before .before .entry-in .ensures in
-    let lays = c .before .before .before .before .before .before .before .before .before .before .before .before .before .lay-entry .ensures in
-    (
+    let lays = c .before .before .before .before .before .before .before .before .before .before .before .before .before .lay-entry .ensures in (
       round .0,
       omega (arith, round .1),
       λ s shown.
-      shows-laid j (a .count) (a .bounds) s _ _ _ shown (t .waits) (t .free) _ next _ out _ lays (low (c .before .before .before .before .before .before .before .before .before .before .before .before .before .before .before .before .before) .0) _ _
-      (round .2 (lain-run j (a .count) (a .bounds) s _ _ _ shown (t .waits) (t .free) _ next _ out)
-      (lain-pieces j (a .count) (a .bounds) s _ _ _ shown (t .waits) (t .free) _ next _ out _ lays)
-      (shows-lain j (a .count) (a .bounds) s _ _ _ shown (t .waits) (t .free) _ next _ out)),
+          shows-laid j (a .count) (a .bounds) s _ _ _ shown (t .waits) (t .free) _ next _ out _ lays (low (c .before .before .before .before .before .before .before .before .before .before .before .before .before .before .before .before .before) .0) _ _
+          (round .2 (lain-run j (a .count) (a .bounds) s _ _ _ shown (t .waits) (t .free) _ next _ out)
+          (lain-pieces j (a .count) (a .bounds) s _ _ _ shown (t .waits) (t .free) _ next _ out _ lays)
+          (shows-lain j (a .count) (a .bounds) s _ _ _ shown (t .waits) (t .free) _ next _ out)),
     )
 
 pub turn-spec : {M : Type 1} → statement M

@@ -8,7 +8,7 @@ use Rattle.rules.specs.declared.GenerationBounds.{GenerationBounds}
 use Rattle.rules.specs.declared.ForcedAnswer.{ForcedAnswer}
 use Rattle.boundary_slots.proofs.Storing.{world-is, offset-is}
 use Rattle.boundary.proofs.Back.{passed-on}
-use Rattle.harness_forced.specs.Slices.{boundsFrom, forcedLeft}
+use Rattle.harness_forced.specs.Slices.{forcedLeft}
 use Rattle.harness_forced.proofs.Crossing.{alike}
 use borrow.Author.Needs.{needs}
 use Rattle.harness_forced.proofs.port_forced.Statement.{statement}
