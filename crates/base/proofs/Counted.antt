@@ -125,6 +125,23 @@ module _ (f g : ℕ → Bool) where
       (λ e. let b : g n ≡ true = h n (lt-suc-self n) e in rw (e, b) (omega arith))
       (λ e. rw e (omega arith))
 
+-- f holds only where g does, and once not there
+pub tally-fewer : (f g : ℕ → Bool) (n k : ℕ) → k < n → f k ≡ false → g k ≡ true → ((i : ℕ) → i < n → f i ≡ true → g i ≡ true) → tally n f < tally n g
+unfolding tally
+tally-fewer f g zero k l off on h = absurd (not-suc-le-zero l)
+tally-fewer f g (suc n) k l off on h =
+    ⊎-elim
+    (λ q.
+    let here : f n ≡ false = subst (λ (i : ℕ). f i ≡ false) q off in
+    let there : g n ≡ true = subst (λ (i : ℕ). g i ≡ true) q on in
+    rw (here, there) (omega (arith, tally-less f g n (λ i b. h i (le-step b)))))
+    (λ below.
+    let less : tally n f < tally n g = tally-fewer f g n k below off on (λ i b. h i (le-step b)) in
+    by-test (f n)
+    (λ e. let t : g n ≡ true = h n (lt-suc-self n) e in rw (e, t) (omega arith))
+    (λ e. rw e (omega arith)))
+    (eq-or-lt-of-le (le-of-suc-le-suc l))
+
 -- one turn of a loop that counts, and its end
 pub tally-turn : {n sofar here : ℕ} {test : Bool} (f : ℕ → Bool) → sofar ≡ tally n f → test ≡ f n → here ≡ pick test 1 0 → sofar + here ≡ tally (n + 1) f
 tally-turn {n} f p q e = rw (p, e, q) (sym (tally-more f n))

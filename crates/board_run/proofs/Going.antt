@@ -4,29 +4,25 @@
 --     begun-goes, going-step    at the beginning, and after a step
 -- Assumes nothing.
 use Prim.Native.Nat.{ℕ, _+_, _*_, _<_, _≤_}
-use mathlib.Core.Path.{_≡_, refl, sym, _∙_, ap, subst}
-use mathlib.Core.Bool.{Bool, true, false, _&&_}
+use mathlib.Core.Path.{_≡_, sym, _∙_, subst}
+use mathlib.Core.Bool.{true, false, _&&_}
 use mathlib.Core.Logic.{⊎-elim}
 use mathlib.Core.List.{List, [], _∷_}
 use native.Mathlib.Omega.{arith}
 use lib.ListN.{length, getD}
-use borrow.Author.Tests.{eqb-true}
-use Rattle.base.specs.Tables.{those, Each}
+use Rattle.base.specs.Tables.{Each}
 use Rattle.base.proofs.Bools.{by-test, and-left, and-right}
-use Rattle.base.proofs.Numbers.{lt-or-le}
+use Rattle.base.proofs.Numbers.{lt-or-le, within-high}
 use Rattle.base.proofs.Tabled.{length-tab, getD-tab}
-use Rattle.base.proofs.Each.{each-those}
 use Rattle.rules.specs.Bounds.{maxColours, maxWeight, queueRoom}
 use Rattle.rules.specs.Tests.{onBoard}
-use Rattle.rules.specs.Grid.{Shape}
-use Rattle.rules.specs.Sets.{coloursOf}
-use Rattle.rules.specs.Fit.{lists}
-use Rattle.rules.specs.Forced.{admits, listedAt, only, forcesOne, isForced, forcedThere, withPositions}
+use Rattle.rules.specs.Forced.{admits, isForced, forcedThere, withPositions}
 use Rattle.rules.specs.Board.{Panel, Board, shapeOf, entryIn, reach, raised, recounted, laid}
 use Rattle.rules.specs.ForcedRun.{Run, forcedBy, stillForced, queueing, taking, stepped, begun}
 use Rattle.rules.specs.declared.World.{World}
 use Rattle.rules.specs.declared.GenerationBounds.{GenerationBounds}
 use Rattle.rules.specs.declared.ForcedPosition.{ForcedPosition}
+use Rattle.rules.proofs.Listed.{still-in}
 use Rattle.rules.proofs.Shares.{share-le}
 use Rattle.rules.proofs.Queues.{each-with, each-forced}
 use Rattle.rules.proofs.ForcedRun.{queuedBy, layingOf, added-room, added-full, laid-then, dropped-then, by-step}
@@ -35,25 +31,8 @@ use Rattle.board_run.specs.Running.{Going}
 
 -- ---- the colour of an entry
 
--- each colour of a list is one of the count, and so is its only one
-only-low : (most : ℕ) (l : List ℕ) → Each (λ t. t ≤ most) l → only l ≤ most
-only-low most [] h = omega arith
-only-low most (t ∷ []) h = h .0
-only-low most (t ∷ u ∷ l) h = omega arith
-
-pub listed-low : (g : Shape) (tiles pieces : List ℕ) (count k : ℕ) → only (listedAt g tiles pieces count k) ≤ count
-unfolding coloursOf
-listed-low g tiles pieces count k =
-    let test : ℕ → Bool = λ i. lists g tiles pieces k (i + 1) in
-    only-low count (those count test (λ i. i + 1)) (each-those (λ t. t ≤ count) count test (λ i. i + 1) (λ i i< e. omega arith))
-
 pub forced-low : (j : Panel) (count : ℕ) (b : Board) (e : ForcedPosition) → stillForced j count b e ≡ true → e .colour ≤ count
-unfolding stillForced
-forced-low j count b e h =
-    let k : ℕ = entryIn j (e .coordinates) in
-    let same : only (listedAt (shapeOf j) (j .tiles) (b .pieces) count k) ≡ e .colour =
-    eqb-true _ _ (and-right (forcesOne (shapeOf j) (j .tiles) (b .pieces) count k) _ h) in
-    omega (arith, same, listed-low (shapeOf j) (j .tiles) (b .pieces) count k)
+forced-low j count b e still = within-high 1 count (e .colour) (still-in j count b e still)
 
 -- ---- the entries
 

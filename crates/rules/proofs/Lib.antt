@@ -2,8 +2,10 @@ pub mod Meaning
 pub mod Said
 pub mod Fewer
 pub mod Walled
+pub mod Listed
 pub mod Queues
 pub mod ForcedRun
+pub mod Room
 pub mod Choices
 pub mod Bench
 pub mod Answered

@@ -29,7 +29,7 @@ use Rattle.stand.proofs.Shared.{Sound}
 use Rattle.stand.proofs.Calls.{Taken, Good, ofPieces, puts, changed-is, puts-good, puts-stored}
 use Rattle.stand.proofs.Order.{withPieces, Lays, then-lays, as-run}
 use Rattle.stand_forced.specs.Moves.{laysOf}
-use Rattle.stand_forced.proofs.Listed.{still-off, still-in, still-listed}
+use Rattle.rules.proofs.Listed.{still-off, still-in, still-listed}
 use Rattle.stand_forced.proofs.Steps.{layingWith, by-run}
 use Rattle.stand_forced.proofs.Waiting.{Entered, enters, keeps, next-kept}
 

@@ -20,7 +20,7 @@ use lib.Seq.{getD-set-same, getD-set-other}
 use Rattle.base.specs.Counting.{tally}
 use Rattle.base.specs.Refusal.{refusal}
 use Rattle.base.proofs.Bools.{never, by-test, and-left, and-right, and-both, and-no-left, and-no-right, or-left, or-right, not-is-true, not-is-false}
-use Rattle.base.proofs.Counted.{tally-le, tally-less}
+use Rattle.base.proofs.Counted.{tally-le, tally-less, tally-fewer}
 use Rattle.base.proofs.Each.{Each, each-so}
 use Rattle.base.proofs.Numbers.{lt-or-le, mul-le, within-low}
 use Rattle.rules.specs.Bounds.{maxBoardSide}
@@ -40,28 +40,11 @@ use Rattle.rules.proofs.ForcedRun.{by-step, steps-full, steps-none, steps-next,
 use Rattle.stand.specs.Runs.{wallOf}
 use Rattle.stand.proofs.Walls.{lies, one-place, place-itself, cell-in, place-back, wall-cell, sides-in}
 use Rattle.stand_forced.specs.Moves.{bareCells}
-use Rattle.stand_forced.proofs.Listed.{listed-less, still-in}
+use Rattle.rules.proofs.Listed.{listed-less, still-in}
 use Rattle.stand_forced.proofs.Steps.{After, by-taking, all-taken}
 use Rattle.stand_forced.proofs.Waiting.{Entered, enters, Apart, Waits, forced-one, keeps, next-kept, drop-is}
 
 -- ---- numbers of cells
-
--- f holds only where g does, and once not there
-tally-fewer : (f g : ℕ → Bool) (n k : ℕ) → k < n → f k ≡ false → g k ≡ true → ((i : ℕ) → i < n → f i ≡ true → g i ≡ true) → tally n f < tally n g
-unfolding tally
-tally-fewer f g zero k l off on h = absurd (not-suc-le-zero l)
-tally-fewer f g (suc n) k l off on h =
-    ⊎-elim
-    (λ q.
-    let here : f n ≡ false = subst (λ (i : ℕ). f i ≡ false) q off in
-    let there : g n ≡ true = subst (λ (i : ℕ). g i ≡ true) q on in
-    rw (here, there) (omega (arith, tally-less f g n (λ i b. h i (le-step b)))))
-    (λ below.
-    let less : tally n f < tally n g = tally-fewer f g n k below off on (λ i b. h i (le-step b)) in
-    by-test (f n)
-    (λ e. let t : g n ≡ true = h n (lt-suc-self n) e in rw (e, t) (omega arith))
-    (λ e. rw e (omega arith)))
-    (eq-or-lt-of-le (le-of-suc-le-suc l))
 
 -- ---- what waits
 

@@ -21,7 +21,7 @@ use Rattle.rules.specs.declared.World.{World}
 use Rattle.rules.specs.declared.GenerationBounds.{GenerationBounds}
 use Rattle.rules.specs.declared.ForcedPosition.{ForcedPosition}
 use Rattle.rules.proofs.ForcedRun.{queuedBy, layingOf, droppingOf, added-room, added-full, laid-then, dropped-then, by-step, begun-room, by-steps}
-use Rattle.stand_forced.proofs.Listed.{not-none}
+use Rattle.rules.proofs.Listed.{not-none}
 
 module _ (j : Panel) (count : ℕ) (bounds : GenerationBounds) where
   -- the run when an entry is laid, with any queue

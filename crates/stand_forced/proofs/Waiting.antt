@@ -32,7 +32,7 @@ use Rattle.rules.proofs.Walled.{board-on-wall}
 use Rattle.stand.specs.Runs.{wallOf}
 use Rattle.stand.proofs.Walls.{On, one-place, place-itself, place-back, sides-in}
 use Rattle.stand.proofs.Calls.{InBounds, Named}
-use Rattle.stand_forced.proofs.Listed.{not-none, OneOr, one-less, only-one, there, still-one, is-still}
+use Rattle.rules.proofs.Listed.{not-none, OneOr, one-less, only-one, there, still-one, is-still}
 use Rattle.stand_forced.proofs.Steps.{by-run}
 
 -- ---- what an accepted call finds

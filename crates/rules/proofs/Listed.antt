@@ -17,38 +17,19 @@ use Rattle.base.specs.Counting.{pick, within}
 use Rattle.base.specs.Tables.{those}
 use Rattle.base.proofs.Bools.{and-left, and-right, and-both, not-is-true}
 use Rattle.base.proofs.Counted.{tally-less}
-use Rattle.base.proofs.Each.{Each, each-those}
+use Rattle.base.proofs.Each.{Each, each-those, each-passes}
 use Rattle.base.proofs.Numbers.{within-is}
 use Rattle.base.proofs.Tabled.{length-those}
 use Rattle.rules.specs.Sets.{coloursOf}
 use Rattle.rules.specs.Grid.{Shape, laidOn}
 use Rattle.rules.specs.Fit.{lists}
 use Rattle.rules.specs.Forced.{listedAt, only, forcesOne}
 use Rattle.rules.specs.Board.{Panel, Board, shapeOf, entryIn}
 use Rattle.rules.specs.ForcedRun.{stillForced}
 use Rattle.rules.specs.declared.ForcedPosition.{ForcedPosition}
 use Rattle.rules.proofs.Fewer.{Under, lists-fewer}
 
--- ---- lists of those that pass a test
-
-module _ {A : Type 0} (P : A → Type 0) where
-  each-parts : (l m : List A) → Each P (l ++ m) → Each P l × Each P m
-  each-parts [] m h = (tt, h)
-  each-parts (x ∷ l) m (p, h) = let r = each-parts l m h in ((p, r .0), r .1)
-
-  -- what holds of each of them holds of what passes
-  each-passes : (n : ℕ) (test : ℕ → Bool) (f : ℕ → A) → Each P (those n test f) → (k : ℕ) → k < n → test k ≡ true → P (f k)
-  unfolding those
-  each-passes zero test f h k l e = absurd (not-suc-le-zero l)
-  each-passes (suc n) test f h k l e =
-      let r = each-parts (those n test f) (pick (test n) (f n ∷ []) []) h in
-      ⊎-elim
-      (λ q. subst (λ (i : ℕ). P (f i)) (sym q) (here (subst (λ (i : ℕ). test i ≡ true) q e) (r .1)))
-      (λ below. each-passes n test f (r .0) k below e)
-      (eq-or-lt-of-le (le-of-suc-le-suc l))
-    where
-      here : test n ≡ true → Each P (pick (test n) (f n ∷ []) []) → P (f n)
-      here t w = (rw t at w) .0
+-- ---- lists of at most one
 
 pub not-none : {A : Type 0} {x : A} {l : List A} → x ∷ l ≡ [] → ⊥
 not-none e = let z : _≡_ {A = ℕ} 0 1 = cc in omega arith
