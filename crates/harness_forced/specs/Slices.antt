@@ -2,11 +2,9 @@
 -- colours; the length is a slice of its own. An element that a slice does not have counts as 0, and nothing is stored past an end. The
 -- promises of functions that change such slices take them as they are lent, for what they hold before and after.
 use Prim.Native.Nat.{ℕ, zero, suc, _+_, _*_}
-use mathlib.Core.Bool.{Bool}
 use mathlib.Core.List.{List}
 use lib.ListN.{getD}
 use lib.IntN.{ℤ, pos}
-use Rattle.base.specs.Counting.{pick}
 use Rattle.base.specs.Tables.{tab}
 use Rattle.base.specs.Refusal.{unlessRefused, Gives}
 use Rattle.rules.specs.Bounds.{queueRoom, addedRoom}

@@ -1,29 +1,73 @@
--- Laws of a forced run's steps.
+-- A forced run's steps: two cases in which its queue fills, by evaluation, and laws.
+--     last-room      eight neighbours are added to 56 entries, and not to 57
+--     lay-stands     the lay after which a run is full stands
 --     by-steps       what holds at the beginning, and after each taking where it held before, holds at every moment
 --     added-room, added-full    the two ways of queueing: with room for all, and without
 --     laid-then, dropped-then   the two ways of taking
+--     adding-is      with at most 64 entries then the forced neighbours are queued; with more the queue stays, and the run is full
 --     begun-room     the first adding never meets ROOM
 --     stays          a run that is full, or in which no entry waits, stays as it is
 -- Assumes nothing.
 use Prim.Native.Nat.{ℕ, zero, suc, _+_, _<_, _≤_}
-use mathlib.Core.Path.{_≡_, refl, sym, _∙_, ap}
+use mathlib.Core.Path.{_≡_, refl, _∙_, ap}
 use mathlib.Core.Bool.{Bool, true, false}
 use mathlib.Core.List.{List, [], _∷_, _++_}
 use mathlib.Core.Logic.{⊎-elim}
 use native.Mathlib.Omega.{arith}
-use borrow.Author.Tests.{le-leb, lt-leb}
-use lib.ListN.{length}
+use lib.Dec.{ltb}
+use lib.ListN.{length, set}
+use lib.IntN.{pos}
+use borrow.Author.Tests.{le-leb, lt-leb, lt-ltb, le-ltb}
+use Rattle.base.specs.Counting.{pick, every, some}
 use Rattle.base.specs.Refusal.{refusal}
 use Rattle.base.proofs.Bools.{pick-yes, pick-no}
 use Rattle.base.proofs.Numbers.{lt-or-le}
+use Rattle.base.specs.Tables.{tab, those, fold}
 use Rattle.rules.specs.Bounds.{queueRoom}
-use Rattle.rules.specs.Forced.{withPositions}
-use Rattle.rules.specs.Board.{Panel, Board, shapeOf, entryIn, laid}
+use Rattle.rules.specs.Forced.{withPositions, neighbour, admits, forcesOne, isForced, forcedThere, forcedRound, isQueued, withPosition}
+use Rattle.rules.specs.Board.{Panel, Board, shapeOf, entryIn, laid, freshBoard}
 use Rattle.rules.specs.ForcedRun.{Run, forcedBy, stillForced, queueing, taking, takingFrom, stepped, begun, runOut}
+use Rattle.rules.specs.Tests.{onBoard}
+use Rattle.rules.specs.Sets.{coloursOf}
+use Rattle.rules.specs.Grid.{entryOrPast, flat}
+use Rattle.rules.specs.Places.{cellOf, samePlace}
+use Rattle.rules.specs.Fit.{agrees, fitsTile, hasFitting, allows, leftAfter}
 use Rattle.rules.specs.declared.World.{World}
 use Rattle.rules.specs.declared.GenerationBounds.{GenerationBounds}
 use Rattle.rules.specs.declared.ForcedPosition.{ForcedPosition}
+use Rattle.rules.specs.declared.GenerationBounds.the-variants.{Unbounded}
 use Rattle.rules.proofs.Queues.{few-more, forced-few}
+use Rattle.rules.proofs.Choices.{plain}
+
+-- ---- the last room, and one entry more
+
+-- a bare board of one plain tile, in which all neighbours of the centre are forced, and so many entries that wait past its edge
+abbrev waiting : ℕ → Run
+waiting n =
+    record {
+      board = freshBoard 9 1;
+      queue = tab n (λ k. record { coordinates = record { 0 = pos (k + 3); 1 = pos 0 }; colour = 1 });
+      taken = 0;
+      lain = [];
+      full = false;
+    }
+
+abbrev added : ℕ → Run
+added n = queueing plain 1 Unbounded (record { 0 = pos 1; 1 = pos 1 }) (waiting n)
+
+pub last-room : (length (added 56 .queue) ≡ 64) × (added 56 .full ≡ false) × (added 57 .queue ≡ waiting 57 .queue) × (added 57 .full ≡ true)
+unfolding queueing refusal fold tab those every some freshBoard withPositions withPosition isQueued samePlace forcedRound forcedThere isForced forcesOne neighbour admits onBoard coloursOf leftAfter allows hasFitting fitsTile agrees flat entryOrPast cellOf
+last-room = (refl, refl, refl, refl)
+
+-- ---- "that lay stands"
+
+-- the entry next out is the centre, and 57 wait behind it
+abbrev laidLast : Run
+laidLast = taking plain 1 Unbounded (waiting 57) (record { coordinates = record { 0 = pos 1; 1 = pos 1 }; colour = 1 }) (waiting 57 .queue)
+
+pub lay-stands : (laidLast .full ≡ true) × (laidLast .board .pieces ≡ set (freshBoard 9 1 .pieces) 4 2) × (length (laidLast .lain) ≡ 1)
+unfolding stillForced taking laid queueing refusal fold tab those every some freshBoard withPositions withPosition isQueued samePlace forcedRound forcedThere isForced forcesOne neighbour admits onBoard coloursOf leftAfter allows hasFitting fitsTile agrees flat entryOrPast cellOf
+lay-stands = (refl, refl, refl)
 
 module _ (j : Panel) (count : ℕ) (bounds : GenerationBounds) where
   -- the queue with the forced neighbours of a place
@@ -122,3 +166,19 @@ module _ (j : Panel) (count : ℕ) (bounds : GenerationBounds) where
         ⊎-elim (λ (l : m < n). let z : suc m ≡ n = omega arith in ap at z)
         (λ (l : n ≤ m). ap (stepped j count bounds) (stays n m e l) ∙ e)
         (lt-or-le m n)
+
+-- ---- the room of its queue, as the number 64
+
+-- "full (an adding would meet ROOM; that lay stands)"
+pub adding-is : (j : Panel) (count : ℕ) (bounds : GenerationBounds) (place : World) (s : Run)
+    → let more = withPositions (s .queue) (forcedBy j count bounds (s .board) place) in
+    queueing j count bounds place s
+    ≡ record { board = s .board; queue = pick (ltb 64 (length more)) (s .queue) more; taken = s .taken; lain = s .lain; full = ltb 64 (length more) }
+adding-is j count bounds place s =
+    ⊎-elim
+    (λ (over : 64 < length more). rw (lt-ltb 64 (length more) over) (added-full j count bounds place s over))
+    (λ (room : length more ≤ 64). rw (le-ltb 64 (length more) room) (added-room j count bounds place s room))
+    (lt-or-le 64 (length more))
+  where
+    more : List ForcedPosition
+    more = queuedBy j count bounds place s

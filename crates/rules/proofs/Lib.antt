@@ -5,7 +5,6 @@ pub mod Walled
 pub mod Listed
 pub mod Queues
 pub mod ForcedRun
-pub mod Room
 pub mod Choices
 pub mod Bench
 pub mod Answered

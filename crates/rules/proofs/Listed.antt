@@ -3,18 +3,16 @@
 --     still-off, still-one, is-still    an entry is still forced exactly if its cell is bare and lists the entry's colour and no other
 --     still-in, still-listed    that colour is one of the count, and listed
 -- Assumes nothing.
-use Prim.Native.Nat.{ℕ, zero, suc, _+_, _<_, _≤_}
+use Prim.Native.Nat.{ℕ, _+_, _≤_}
 use mathlib.Core.Path.{_≡_, refl, sym, _∙_, ap, subst}
 use mathlib.Core.Bool.{Bool, true, false, not, _&&_}
 use mathlib.Core.Logic.{_⊎_, inl, inr, ⊎-elim}
-use mathlib.Core.List.{List, [], _∷_, _++_}
-use native.Mathlib.Nat.{eq-or-lt-of-le, le-of-suc-le-suc, not-suc-le-zero}
+use mathlib.Core.List.{List, [], _∷_}
 use native.Mathlib.Omega.{arith}
 use borrow.Author.Tests.{eqb-true, eq-eqb, not-true}
 use lib.Dec.{eqb}
 use lib.ListN.{length}
-use Rattle.base.specs.Counting.{pick, within}
-use Rattle.base.specs.Tables.{those}
+use Rattle.base.specs.Counting.{within}
 use Rattle.base.proofs.Bools.{and-left, and-right, and-both, not-is-true}
 use Rattle.base.proofs.Counted.{tally-less}
 use Rattle.base.proofs.Each.{Each, each-those, each-passes}

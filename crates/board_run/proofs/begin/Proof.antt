@@ -1,5 +1,4 @@
 -- `board_run::begin` meets its contract: the forced neighbours are queued in a queue that is empty. Assumes nothing.
-use mathlib.Core.Path.{_≡_}
 use mathlib.Core.Bool.{false}
 use mathlib.Core.List.{[]}
 use native.Mathlib.Omega.{arith}

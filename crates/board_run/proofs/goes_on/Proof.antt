@@ -1,5 +1,4 @@
 -- `board_run::goes_on` meets its contract: the first test that fails decides. Assumes nothing.
-use mathlib.Core.Path.{_≡_, sym}
 use native.Mathlib.Omega.{arith}
 use borrow.Author.Needs.{needs}
 use borrow.Author.Tests.{le-ltb, lt-ltb}

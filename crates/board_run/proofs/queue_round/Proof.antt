@@ -1,12 +1,11 @@
 -- `board_run::queue_round` meets its contract: the neighbours found are those of the run's board, and there is room for them or not.
 -- Assumes nothing.
 use Prim.Native.Nat.{ℕ}
-use mathlib.Core.Path.{_≡_, refl, sym, _∙_, ap}
+use mathlib.Core.Path.{refl, sym, _∙_, ap}
 use mathlib.Core.List.{List}
 use Rattle.rules.specs.Grid.{flat}
 use Rattle.rules.specs.Forced.{forcedRound, positionsOf}
 use Rattle.rules.specs.Promises.{board, panel}
-use Rattle.rules.specs.ForcedRun.{Run}
 use Rattle.board_run.proofs.Leaning.{found-few}
 use Rattle.board_run.proofs.Showing.{shows-room, shows-full}
 use borrow.Author.Needs.{needs}

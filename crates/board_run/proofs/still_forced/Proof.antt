@@ -1,6 +1,5 @@
 -- `board_run::still_forced` meets its contract: a cell whose only colour is 0 is laid, or lists none or more than one.
 -- Assumes nothing.
-use mathlib.Core.Path.{_≡_}
 use borrow.Author.Needs.{needs}
 use Rattle.board_run.proofs.Leaning.{cell-on}
 use Rattle.board_run.proofs.Showing.{none-left, one-left}

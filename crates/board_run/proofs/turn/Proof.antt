@@ -1,11 +1,10 @@
 -- `board_run::turn` meets its contract: the entry is dropped, or laid and its forced neighbours queued. Assumes nothing.
 use Prim.Native.Nat.{_≤_}
-use mathlib.Core.Path.{_≡_, refl, sym, _∙_, ap}
-use mathlib.Core.Bool.{true, false}
+use mathlib.Core.Path.{_≡_, refl}
+use mathlib.Core.Bool.{true}
 use native.Mathlib.Omega.{arith}
 use Rattle.base.proofs.Bools.{fails, passes}
 use Rattle.rules.specs.Bounds.{maxColours}
-use Rattle.rules.specs.Tests.{onBoard}
 use Rattle.rules.specs.Board.{Panel}
 use Rattle.rules.specs.ForcedRun.{stillForced}
 use Rattle.rules.specs.Promises.{board, panel}
