@@ -1,6 +1,6 @@
-/* A desk in miniature: a 3x4 panel, the two chequer tiles, a piece laid, colours listed, the piece lifted; and the same piece laid, the
- * panel widened, the piece lifted. It checks every answer, and compares the planes after each lift with those of a panel on which no
- * piece ever lay. */
+/* A desk in miniature: a 3x4 panel, the two chequer tiles, a piece laid, colours listed, the piece lifted; the same piece laid and what it
+ * forces run out; and the same piece laid, the panel widened, the piece lifted. It checks every answer, and compares the planes after each
+ * lift with those of a panel on which no piece ever lay. */
 #include "desk.h"
 
 #include <inttypes.h>
@@ -56,6 +56,21 @@ static uint32_t lift(struct plan *plan, int32_t row, int32_t col)
     size_t n = cells(plan);
     return desk_lift(plan->pieces, n, plan->weights, n, plan->counts, n, plan->rows, plan->cols, tiles, sizeof tiles, COLOURS, row, col,
                      plan->down, plan->across);
+}
+
+/* No box. */
+static void run_out(struct plan *plan, int32_t row, int32_t col, size_t budget)
+{
+    static const char *const ends[] = {[DESK_RUN_DONE] = "done", [DESK_RUN_SPENT] = "spent", [DESK_RUN_FULL] = "full"};
+    size_t n = cells(plan);
+    uint64_t ran[3];
+    need("run out",
+         desk_forced_run(plan->pieces, n, plan->weights, n, plan->counts, n, plan->rows, plan->cols, tiles, sizeof tiles, COLOURS, row, col,
+                         plan->down, plan->across, false, 0, 0, 0, 0, budget, ran, 3),
+         DESK_DONE);
+    need("an end that has a name", ran[0] < sizeof ends / sizeof *ends, 1);
+    printf("forced from %" PRId32 " %" PRId32 ", budget %zu: %s, %" PRIu64 " taken, %" PRIu64 " laid\n", row, col, budget, ends[ran[0]], ran[1],
+           ran[2]);
 }
 
 /* left and right are rows, top and bottom columns. The new panel has the new size, and the offset that the call gives. */
@@ -116,6 +131,12 @@ int main(void)
     need("lift", lift(&plan, 0, 0), DESK_DONE);
     need("memory after the lift", memcmp(&plan, &before, sizeof plan) != 0, 0);
     puts("lifted: pieces, weights and counts as before the lay");
+
+    struct plan forced = laid;
+    run_out(&forced, 0, 0, 3);
+    show("pieces", &forced, forced.pieces);
+    run_out(&forced, 0, 0, 4096);
+    show("pieces", &forced, forced.pieces);
 
     struct plan wide = widen(&laid, 1, 0, 0, 2);
     printf("widened with the piece on it: %zu rows, %zu columns, offset %" PRId32 " %" PRId32 "\n", wide.rows, wide.cols, wide.down, wide.across);

@@ -1,4 +1,4 @@
-/* The desk's functions: fitting colours, lay, lift and widening, for a C program.
+/* The desk's functions: fitting colours, lay, lift, widening and running out the forced pieces, for a C program.
  *
  * Build: `rt staticlib desk` proves the functions and writes target/staticlib/libdesk.a; link it, no other library is needed. It is for
  * x86-64 (System V calls, Linux) alone. The functions hold no state, allocate nothing, print nothing, and always return.
@@ -12,10 +12,10 @@
  *   counts        how many tiles of the list fit the 3x3 region whose top left cell this is; where that region passes the edge, the number
  *                 of all tiles. A tile that stands twice in the list counts twice. The planner's scores, which are not in this library, are
  *                 made of it. Start: the number of tiles everywhere (tiles_len / 9).
- * A plan starts with pieces all 1, weights all 1 and counts as said. From then on lay, lift and widening keep the three as the pieces say
- * them. A program that changes a plane by hand, or names other tiles or another size from one call to the next, gives that up, and the calls
- * need not notice; with another offset the same place is another cell. Only a widening gives a new size and a new offset, and the calls
- * after it name these.
+ * A plan starts with pieces all 1, weights all 1 and counts as said. From then on lay, lift, widening and the forced run keep the three as
+ * the pieces say them. A program that changes a plane by hand, or names other tiles or another size from one call to the next, gives that
+ * up, and the calls need not notice; with another offset the same place is another cell. Only a widening gives a new size and a new offset,
+ * and the calls after it name these.
  *
  * What all functions take
  *   rows, cols    the sides of the board, 1 to 64 each. Each plane has exactly rows * cols entries, and its _len says so.
@@ -37,6 +37,7 @@
 #ifndef DESK_H
 #define DESK_H
 
+#include <stdbool.h>
 #include <stddef.h>
 #include <stdint.h>
 
@@ -46,14 +47,21 @@ extern "C" {
 
 enum desk_refusal {
     DESK_DONE = 0,
-    DESK_SHAPE = 1,  /* a side of the board, or one that the pads make, is out of bounds */
+    DESK_SHAPE = 1,  /* a side of the board, one that the pads make, or the budget is out of bounds */
     DESK_LENGTH = 2, /* a plane does not have as many entries as its board has cells; the tiles are not 1 to 7,200 whole ones */
     DESK_COUNT = 3,  /* count is out of bounds */
     DESK_CELL = 4,   /* a tile cell above count; a piece 0 or above count + 1; a weight above 4,000,000,000; an entry of counts above the number of tiles */
-    DESK_PLACE = 6,  /* a coordinate, the offset or the widened panel's offset is out of bounds, or the cell is off the board */
+    DESK_PLACE = 6,  /* a coordinate, a corner, the offset or the widened panel's offset is out of bounds, or the cell is off the board */
     DESK_TYPE = 7,   /* the colour to lay is 0 or above count */
     DESK_TAKEN = 8,  /* lay where a piece stands */
     DESK_BARE = 9    /* lift where none stands */
+};
+
+/* How a forced run ended. */
+enum desk_run_end {
+    DESK_RUN_DONE = 0,  /* no entry waits any more */
+    DESK_RUN_SPENT = 1, /* as many entries were taken as the budget allows, and some still wait */
+    DESK_RUN_FULL = 2   /* what the last piece laid forces had no room in the queue; that piece lies, and none of them was queued */
 };
 
 /* The colours that fit at a place. The nine 3x3 windows that hold the cell are looked at, except those that would start above or left of
@@ -75,7 +83,8 @@ uint32_t desk_lay(uint32_t *pieces, size_t pieces_len, uint32_t *weights, size_t
                   int32_t across, uint32_t colour);
 
 /* Lifts the piece at a place, whatever its colour. If the plan began as above and only lay, lift and widening changed it, the planes are
- * then as if the piece had never lain there (docs/ANSWER.md has the theorem).
+ * then as if the piece had never lain there (docs/ANSWER.md has the theorem). A forced run between the lay and the lift may have laid what
+ * the piece forced: these pieces stay, and the planes are what the pieces that stand say.
  * Reads all planes and tiles. Stores 1 in the cell, takes from the weights what lay added, stopping at 0, and counts the same regions anew.
  * Refusals: SHAPE, LENGTH, COUNT, CELL, PLACE, BARE. */
 uint32_t desk_lift(uint32_t *pieces, size_t pieces_len, uint32_t *weights, size_t weights_len, uint32_t *counts, size_t counts_len,
@@ -98,6 +107,30 @@ uint32_t desk_widen(uint32_t *widepieces, size_t widepieces_len, uint32_t *widew
                     const uint32_t *counts, size_t counts_len, size_t rows, size_t cols, size_t left, size_t right, size_t top,
                     size_t bottom, const uint8_t *tiles, size_t tiles_len, uint32_t count, int32_t down, int32_t across, int32_t *offset,
                     size_t offset_len);
+
+/* Runs out the forced pieces: lays what is forced beside a place, and what that forces in turn. A bare cell is forced if exactly one colour
+ * fits there (desk_fitting_colours). The run has a queue of 64 entries, a place and a colour each, empty at first:
+ *   - the forced ones of the place's eight neighbours are queued, row by row; whether a piece lies at the place itself does not matter;
+ *   - the first entry is taken. If its cell is still bare and its colour is still the only one that fits, it is laid as desk_lay lays it, and
+ *     the forced ones of its own neighbours are queued behind the others; a place that waits already is not queued twice. Otherwise, which
+ *     is where no colour fits there any more, it is dropped;
+ *   - and so on, until it ends as enum desk_run_end says. With an empty queue it is DONE, also where the budget is 0 or used up; where FULL
+ *     and SPENT fall together it is FULL.
+ *   within, minrow, mincol, maxrow, maxcol
+ *                 with within true only places of the box with these corners, both included, are queued, at first and later; wall
+ *                 coordinates, -1,000,000 to 1,000,000 each. The place itself may lie outside; a box whose least row or column is above its
+ *                 greatest has no place. With within false the four numbers are not looked at.
+ *   budget        how many entries may be taken, 0 to 4,096. As many as there are bare cells are always enough, and so are 4,096.
+ *   ran           is written: how it ended, how many entries were taken, how many of them were laid. Lend three entries; what has no entry is
+ *                 not stored, and further ones are left alone.
+ * What waits when a run ends SPENT or FULL is forgotten: a further call begins with the neighbours of the place that it names.
+ * Reads all planes and tiles. Writes what desk_lay writes, for each piece laid. The checks are made once, before the first: weights that stood
+ * near 4,000,000,000 may pass it, and the next call then gets CELL; they do not wrap round.
+ * Refusals: SHAPE, LENGTH, COUNT, CELL, PLACE (the place, the offset; with within true also a corner). */
+uint32_t desk_forced_run(uint32_t *pieces, size_t pieces_len, uint32_t *weights, size_t weights_len, uint32_t *counts, size_t counts_len,
+                         size_t rows, size_t cols, const uint8_t *tiles, size_t tiles_len, uint32_t count, int32_t row, int32_t col,
+                         int32_t down, int32_t across, bool within, int32_t minrow, int32_t mincol, int32_t maxrow, int32_t maxcol,
+                         size_t budget, uint64_t *ran, size_t ran_len);
 
 #ifdef __cplusplus
 }

@@ -88,3 +88,8 @@ pub const TYPE: Refusal = 7;
 pub const TAKEN: Refusal = 8;
 pub const BARE: Refusal = 9;
 pub const ROOM: Refusal = 10;
+
+/// How a forced run ends, as it tells it: no entry waits, the budget is spent, or an adding would meet ROOM.
+pub const DONE: u64 = 0;
+pub const SPENT: u64 = 1;
+pub const FULL: u64 = 2;

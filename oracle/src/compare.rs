@@ -2,6 +2,7 @@
 
 pub mod board;
 pub mod copies;
+pub mod forced_run;
 pub mod places;
 pub mod probabilities;
 pub mod queue;
@@ -54,7 +55,8 @@ pub trait Input: Clone + Debug {
     /// The refusal table on this input.
     fn refusal(&self) -> Option<Refusal>;
 
-    /// By the table if it is refused, by the text if not; widening, which the text has not, by document 02's rule.
+    /// By the table if it is refused, by the text if not; widening and the forced run, which the text has not, by document
+    /// 02's rules.
     fn expected(&self) -> Outcome;
 
     /// By the port.
@@ -404,6 +406,7 @@ pub fn all() -> Vec<Named> {
     family::<sets::SetInput>(&mut all);
     family::<board::BoardInput>(&mut all);
     family::<widen::WidenInput>(&mut all);
+    family::<forced_run::RunInput>(&mut all);
     family::<queue::QueueInput>(&mut all);
     family::<probabilities::ProbabilityInput>(&mut all);
     family::<sequences::SequenceInput>(&mut all);

@@ -1,10 +1,11 @@
-//! The rules of document 01, and document 02's widening, in plain Rust, under the names of src/port.rs. It stands in the
-//! port's place so that the driver can be tried with no port at hand, and shows where the text and document 01 part.
-//! Nothing is concluded from it about the port. Refusals are those of src/refusals.rs, so of these it says nothing.
+//! The rules of document 01, and document 02's widening and forced run, in plain Rust, under the names of src/port.rs. It
+//! stands in the port's place so that the driver can be tried with no port at hand, and shows where the text and document
+//! 01 part. Nothing is concluded from it about the port. Refusals are those of src/refusals.rs, so of these it says nothing.
 
 use crate::calls::*;
 use crate::refusals;
 use std::cell::Cell as Setting;
+use std::collections::VecDeque;
 
 /// Errors that tempt, to be put in one at a time: they show that the inputs of a run are telling.
 #[derive(Clone, Copy, Debug, PartialEq, Eq)]
@@ -54,10 +55,37 @@ pub enum Slip {
     RefusedWidenFills,
     /// it stores the offset
     RefusedWidenStores,
+    /// an entry is laid without asking again whether it is forced
+    RunLaysUnasked,
+    /// the budget counts lays, not takings
+    RunBudgetOfLays,
+    /// the lay after which the queue is full is taken back
+    RunFullTakesBack,
+    /// an adding that meets ROOM keeps what fits, and the run goes on
+    RunAddsWhatFits,
+    RunSpentOverEmpty,
+    /// where both hold
+    RunSpentBeforeFull,
+    /// from call to call
+    RunKeepsQueue,
+    /// of 63 entries
+    RunRoomOneLess,
+    RunRoomOneMore,
+    /// last in, first out
+    RunTakesLast,
+    /// only the forced neighbours of the place are kept to the box
+    RunBoxAtFirst,
+    /// an entry whose lay, as a call, would be refused is dropped
+    RunChecksEachLay,
+    /// they are checked although no box is given
+    RunReadsCorners,
+    /// one past 4,096 counts as 4,096
+    RunBudgetCut,
+    RefusedRunStores,
 }
 
 impl Slip {
-    pub const ALL: [Slip; 39] = [
+    pub const ALL: [Slip; 54] = [
         Slip::SkipBottomWindows,
         Slip::SkipRightWindows,
         Slip::KeepTopWindows,
@@ -97,6 +125,21 @@ impl Slip {
         Slip::WidenReadsNewPlanes,
         Slip::RefusedWidenFills,
         Slip::RefusedWidenStores,
+        Slip::RunLaysUnasked,
+        Slip::RunBudgetOfLays,
+        Slip::RunFullTakesBack,
+        Slip::RunAddsWhatFits,
+        Slip::RunSpentOverEmpty,
+        Slip::RunSpentBeforeFull,
+        Slip::RunKeepsQueue,
+        Slip::RunRoomOneLess,
+        Slip::RunRoomOneMore,
+        Slip::RunTakesLast,
+        Slip::RunBoxAtFirst,
+        Slip::RunChecksEachLay,
+        Slip::RunReadsCorners,
+        Slip::RunBudgetCut,
+        Slip::RefusedRunStores,
     ];
 }
 
@@ -629,6 +672,21 @@ pub fn fresh(
     })
 }
 
+/// A board's three planes.
+type Planes<'a> = (&'a mut [u32], &'a mut [u32], &'a mut [u32]);
+
+fn lay_at((pieces, weights, counts): Planes, rows: usize, cols: usize, tiles: &[u8], cell: Cell, colour: u32) {
+    pieces[cell.0 * cols + cell.1] = colour + 1;
+    raise(weights, cols, cell);
+    recounted(counts, pieces, rows, cols, tiles, cell);
+}
+
+fn lift_at((pieces, weights, counts): Planes, rows: usize, cols: usize, tiles: &[u8], cell: Cell) {
+    pieces[cell.0 * cols + cell.1] = 1;
+    lower(weights, cols, cell);
+    recounted(counts, pieces, rows, cols, tiles, cell);
+}
+
 pub fn lay(
     pieces: &mut [u32],
     weights: &mut [u32],
@@ -644,9 +702,7 @@ pub fn lay(
     let refused = refusals::lay_or_lift(pieces, weights, counts, rows, cols, tiles, count, world, offset, Some(colour));
     unless(refused, || {
         let cell = refusals::cell_of(rows, cols, world, offset).unwrap();
-        pieces[cell.0 * cols + cell.1] = colour + 1;
-        raise(weights, cols, cell);
-        recounted(counts, pieces, rows, cols, tiles, cell);
+        lay_at((pieces, weights, counts), rows, cols, tiles, cell, colour);
     })
 }
 
@@ -664,9 +720,7 @@ pub fn lift(
     let refused = refusals::lay_or_lift(pieces, weights, counts, rows, cols, tiles, count, world, offset, None);
     unless(refused, || {
         let cell = refusals::cell_of(rows, cols, world, offset).unwrap();
-        pieces[cell.0 * cols + cell.1] = 1;
-        lower(weights, cols, cell);
-        recounted(counts, pieces, rows, cols, tiles, cell);
+        lift_at((pieces, weights, counts), rows, cols, tiles, cell);
     })
 }
 
@@ -777,6 +831,130 @@ pub fn widen(
             *count = kept.unwrap_or_else(|| count_from_pieces(wide_pieces, new_rows, new_cols, tiles, cell(k)));
         }
         store_offset(new_offset, offset, pads);
+    })
+}
+
+// ---- the forced run
+
+thread_local! {
+    /// for a slip: what waited when the last run ended
+    static LEFT: Setting<VecDeque<ForcedPosition>> = const { Setting::new(VecDeque::new()) };
+}
+
+/// A run so far: the entries that wait, how many were taken and how many of them laid, and whether an adding met ROOM.
+struct Run {
+    queue: VecDeque<ForcedPosition>,
+    taken: usize,
+    laid: usize,
+    full: bool,
+}
+
+impl Run {
+    fn new() -> Self {
+        let queue = if slips(Slip::RunKeepsQueue) { LEFT.take() } else { VecDeque::new() };
+        Self { queue, taken: 0, laid: 0, full: false }
+    }
+
+    /// Those whose places do not wait yet, all or none.
+    fn add(&mut self, forced: ForcedPositions) {
+        let mut more = self.queue.clone();
+        for entry in &forced.entries[..forced.len] {
+            if more.iter().all(|old| old.coordinates != entry.coordinates) {
+                more.push_back(*entry);
+            }
+        }
+        let room = if slips(Slip::RunRoomOneLess) { 63 } else { 64 + usize::from(slips(Slip::RunRoomOneMore)) };
+        self.full = more.len() > room;
+        if self.full && slips(Slip::RunAddsWhatFits) {
+            more.truncate(room);
+            self.full = false;
+        }
+        if !self.full {
+            self.queue = more;
+        }
+    }
+
+    /// The next entry; none where the run ends.
+    fn next(&mut self, budget: usize) -> Option<ForcedPosition> {
+        let used = if slips(Slip::RunBudgetOfLays) { self.laid } else { self.taken };
+        if self.full || used >= budget {
+            return None;
+        }
+        let next = if slips(Slip::RunTakesLast) { self.queue.pop_back() } else { self.queue.pop_front() }?;
+        self.taken += 1;
+        Some(next)
+    }
+
+    /// How it ended, and the two numbers.
+    fn told(&self, budget: usize) -> [u64; 3] {
+        let empty = self.queue.is_empty();
+        let tempting = if empty { Slip::RunSpentOverEmpty } else { Slip::RunSpentBeforeFull };
+        let end = match (self.full, empty) {
+            _ if self.taken == budget && slips(tempting) => SPENT,
+            (true, _) => FULL,
+            (false, true) => DONE,
+            (false, false) => SPENT,
+        };
+        [end, self.taken as u64, self.laid as u64]
+    }
+}
+
+fn store(ran: &mut [u64], told: [u64; 3]) {
+    ran.iter_mut().zip(told).for_each(|(entry, number)| *entry = number);
+}
+
+/// Document 02's request 2, an entry at a time.
+pub fn forced_run(
+    pieces: &mut [u32],
+    weights: &mut [u32],
+    counts: &mut [u32],
+    rows: usize,
+    cols: usize,
+    tiles: &[u8],
+    count: u32,
+    world: World,
+    offset: Offset,
+    within: bool,
+    corners: BoundingBox,
+    budget: usize,
+    ran: &mut [u64],
+) -> Answer<()> {
+    let budget = if slips(Slip::RunBudgetCut) { budget.min(4_096) } else { budget };
+    let checked = (within || slips(Slip::RunReadsCorners)).then_some(corners);
+    let refused =
+        refusals::forced_run(pieces, weights, counts, rows, cols, tiles, count, world, offset, checked, budget);
+    if refused.is_some() && slips(Slip::RefusedRunStores) {
+        store(ran, [DONE, 0, 0]);
+    }
+    unless(refused, || {
+        let first = within.then_some(corners);
+        let later = first.filter(|_| !slips(Slip::RunBoxAtFirst));
+        let forced = |pieces: &[u32], round: World, bounds: Option<BoundingBox>| {
+            forced(pieces, rows, cols, tiles, count, round, offset, bounds).expect("checked on entry")
+        };
+        let mut run = Run::new();
+        run.add(forced(pieces, world, first));
+        while let Some(ForcedPosition { coordinates, colour }) = run.next(budget) {
+            // always on the board, but for entries of another run's
+            let Some(cell) = refusals::cell_of(rows, cols, coordinates, offset) else { continue };
+            let still = pieces[cell.0 * cols + cell.1] == 1
+                && listed(pieces, rows, cols, tiles, count, cell) == 1 << (colour - 1);
+            if !still && !slips(Slip::RunLaysUnasked) {
+                continue;
+            }
+            if slips(Slip::RunChecksEachLay) && refusals::weights(weights, rows, cols, coordinates, offset).is_some() {
+                continue;
+            }
+            lay_at((pieces, weights, counts), rows, cols, tiles, cell, colour);
+            run.laid += 1;
+            run.add(forced(pieces, coordinates, later));
+            if run.full && slips(Slip::RunFullTakesBack) {
+                lift_at((pieces, weights, counts), rows, cols, tiles, cell);
+                run.laid -= 1;
+            }
+        }
+        store(ran, run.told(budget));
+        LEFT.set(run.queue);
     })
 }
 

@@ -2,8 +2,8 @@
 //!
 //! The boundary is numbers and slices. A slice goes over as a pointer and its number of elements. Each exported function
 //! answers 0 or a refusal's number; what it finds goes into lent slices of exactly the length named here, which a refused
-//! call leaves as they were. Fitting colours, lay, lift and widen are the desk's own functions, the others are exported for
-//! tests. Nothing checks these declarations against the port's source but the runs themselves.
+//! call leaves as they were. Fitting colours, lay, lift, widen and the forced run are the desk's own functions, the others
+//! are exported for tests. Nothing checks these declarations against the port's source but the runs themselves.
 
 use crate::calls::*;
 use crate::outcome::Guarded;
@@ -151,6 +151,14 @@ unsafe extern "C" {
         counts: *const u32, counts_len: usize,
         rows: usize, cols: usize, left: usize, right: usize, top: usize, bottom: usize,
         tiles: *const u8, tiles_len: usize, count: u32, down: i32, across: i32, offset: *mut i32, offset_len: usize,
+    ) -> u32;
+
+    // ran: how it ended, how many entries were taken, how many of them laid; further entries are left alone
+    fn desk_forced_run(
+        pieces: *mut u32, pieces_len: usize, weights: *mut u32, weights_len: usize, counts: *mut u32, counts_len: usize,
+        rows: usize, cols: usize, tiles: *const u8, tiles_len: usize, count: u32, row: i32, col: i32, down: i32,
+        across: i32, within: bool, minrow: i32, mincol: i32, maxrow: i32, maxcol: i32, budget: usize,
+        ran: *mut u64, ran_len: usize,
     ) -> u32;
 
     fn port_normalise(
@@ -766,6 +774,33 @@ pub fn widen(
             pieces.as_ptr(), pieces.len(), weights.as_ptr(), weights.len(), counts.as_ptr(), counts.len(),
             rows, cols, left, right, top, bottom, tiles.as_ptr(), tiles.len(), count, offset.0, offset.1,
             new_offset.as_mut_ptr(), new_offset.len(),
+        )
+    };
+    answer(refused, ())
+}
+
+/// What the run tells goes into a slice of any length that the caller lends. Without `within` the corners are any numbers.
+pub fn forced_run(
+    pieces: &mut [u32],
+    weights: &mut [u32],
+    counts: &mut [u32],
+    rows: usize,
+    cols: usize,
+    tiles: &[u8],
+    count: u32,
+    world: World,
+    offset: Offset,
+    within: bool,
+    corners: BoundingBox,
+    budget: usize,
+    ran: &mut [u64],
+) -> Answer<()> {
+    let BoundingBox { min, max } = corners;
+    let refused = unsafe {
+        desk_forced_run(
+            pieces.as_mut_ptr(), pieces.len(), weights.as_mut_ptr(), weights.len(), counts.as_mut_ptr(), counts.len(),
+            rows, cols, tiles.as_ptr(), tiles.len(), count, world.0, world.1, offset.0, offset.1,
+            within, min.0, min.1, max.0, max.1, budget, ran.as_mut_ptr(), ran.len(),
         )
     };
     answer(refused, ())

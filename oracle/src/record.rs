@@ -138,6 +138,9 @@ pub fn records<I: Input>(name: &str, step: I::Step, seed: u64) -> Vec<String> {
         }
         let mut random = Random::new(&[seed, name_seed(name), number, 2]);
         let input = I::random(step, &mut random, &tiles);
+        if input.arguments().is_none() {
+            return Vec::new();
+        }
         for input in [spoil(&input, &mut random), input] {
             match record(step, &input) {
                 Some(Line { refused: Some(number), text, .. }) => _ = refused.entry(number).or_insert(text),

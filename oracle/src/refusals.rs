@@ -1,6 +1,6 @@
-//! Document 01's refusal table, said once more and on its own, with what document 02 adds for widening: for each call,
-//! every rule that applies to it. Of those that hold, the lowest number is the answer. Only the tile store's ROOM stands
-//! with its step, which knows the tiles.
+//! Document 01's refusal table, said once more and on its own, with what document 02 adds for widening and for the forced
+//! run: for each call, every rule that applies to it. Of those that hold, the lowest number is the answer. Only the tile
+//! store's ROOM stands with its step, which knows the tiles.
 
 use crate::calls::*;
 
@@ -11,6 +11,7 @@ const MAX_RADIUS: usize = 63;
 const MAX_BLOCK_SIDE: usize = 127;
 const MAX_COLOURS: u32 = 30;
 const MAX_WEIGHT: u32 = 4_000_000_000;
+const MAX_BUDGET: usize = 4_096;
 
 fn lowest(rules: &[(bool, Refusal)]) -> Option<Refusal> {
     rules.iter().filter(|rule| rule.0).map(|rule| rule.1).min()
@@ -327,6 +328,34 @@ pub fn widen(
     ])
 }
 
+/// Corners are looked at only where there is a box.
+pub fn forced_run(
+    pieces: &[u32],
+    weights: &[u32],
+    counts: &[u32],
+    rows: usize,
+    cols: usize,
+    tiles: &[u8],
+    colours: u32,
+    world: World,
+    given: Offset,
+    bounds: Option<BoundingBox>,
+    budget: usize,
+) -> Option<Refusal> {
+    let [a, b, c, d] = laid(pieces, rows, cols, tiles, colours);
+    let wrong = |plane: &[u32]| length(plane.len(), &[rows, cols]);
+    lowest(&[
+        a,
+        b,
+        c,
+        d,
+        (budget > MAX_BUDGET, SHAPE),
+        (wrong(weights) || wrong(counts), LENGTH),
+        (weights_cells(weights) || counts_cells(counts, tiles.len() / 9), CELL),
+        (place(rows, cols, world, given) || bounds.is_some_and(corners), PLACE),
+    ])
+}
+
 // ---- the queue
 
 fn queue_rules(queue: &ForcedPipeline) -> [(bool, Refusal); 2] {
@@ -504,6 +533,23 @@ mod tests {
         assert_eq!(refused(1, pads(0, 0), 4_000_000_000, 1, -999_937), None);
         assert_eq!(refused(0, pads(usize::MAX, 0), 0, 1, 0), Some(SHAPE));
         assert_eq!(refused(3, pads(usize::MAX, 2), 0, 1, i32::MIN), Some(SHAPE));
+    }
+
+    /// Of a forced run: the budget with the sides, a corner with the place, and no corner without a box.
+    #[test]
+    fn forced_runs() {
+        let bounds = |corner| Some(BoundingBox { min: World(0, corner), max: World(0, 0) });
+        let refused = |counts: &[u32], weight, count, bounds, budget| {
+            forced_run(&[1], &[weight], counts, 1, 1, &[0; 9], count, World(0, 0), Offset(0, 0), bounds, budget)
+        };
+        assert_eq!(refused(&[0], 4_000_000_000, 30, bounds(-1_000_000), 4_096), None);
+        assert_eq!(refused(&[0], 4_000_000_000, 30, bounds(-1_000_001), 0), Some(PLACE));
+        assert_eq!(refused(&[2], 0, 30, bounds(i32::MAX), 0), Some(CELL));
+        assert_eq!(refused(&[2], 0, 31, bounds(i32::MAX), 0), Some(COUNT));
+        assert_eq!(refused(&[], 0, 31, bounds(i32::MAX), 0), Some(LENGTH));
+        assert_eq!(refused(&[], 0, 31, bounds(i32::MAX), 4_097), Some(SHAPE));
+        assert_eq!(refused(&[0], 0, 1, None, usize::MAX), Some(SHAPE));
+        assert_eq!(refused(&[0], 0, 1, None, 0), None);
     }
 
     /// Products of sides that no length reaches.

@@ -1,10 +1,11 @@
-//! Runs of lay, lift and widen from a fresh board, refused calls among them. After every call the board is held against the
-//! text's own steps, and against a board of the port's, of the size and offset that it then has, that is laid afresh with
-//! the standing pieces only, in another order. The text cannot widen: there the board it goes on with is one of the new
-//! size and offset, on which it has laid the standing pieces at their wall coordinates. Some acts name another colour count
-//! than the job's; the board laid afresh names one that has all colours.
+//! Runs of lay, lift, widen and forced runs from a fresh board, refused calls among them. After every call the board is held
+//! against the text's own steps, and against a board of the port's, of the size and offset that it then has, that is laid
+//! afresh with the standing pieces only, in another order. The text cannot widen: there the board it goes on with is one of
+//! the new size and offset, on which it has laid the standing pieces at their wall coordinates. Its forced run is that of
+//! forced_run.rs. Some acts name another colour count than the job's; the board laid afresh names one that has all colours.
 
 use super::board::board_planes;
+use super::forced_run;
 use super::{Input, Shows};
 use crate::calls::*;
 use crate::inputs::{self, TileList};
@@ -22,6 +23,8 @@ enum Call {
     Clear(World),
     /// with a plane of a wrong length it is refused
     Widen(Pads, Option<WrongLength>),
+    /// from a place, in a box or not, with a budget
+    RunOut(World, Option<BoundingBox>, usize),
 }
 
 /// One of a widening's planes, the three new ones and then the three old ones, is lent with a cell too many or too few.
@@ -49,6 +52,11 @@ impl Act {
             all.extend(wrong.map(|_| Self { call: Call::Widen(pads, None), ..self }));
             let with = |pads: Pads| Self { call: Call::Widen(pads, wrong), ..self };
             all.extend(inputs::smaller_pads(pads).into_iter().map(with));
+        }
+        if let Call::RunOut(world, bounds, budget) = self.call {
+            all.extend(bounds.map(|_| Self { call: Call::RunOut(world, None, budget), ..self }));
+            let with = |budget: usize| Self { call: Call::RunOut(world, bounds, budget), ..self };
+            all.extend(inputs::fewer(budget).into_iter().map(with));
         }
         all
     }
@@ -136,6 +144,14 @@ fn said(answer: Answer<()>) -> Value {
 fn said_with(answer: Answer<()>, offset: Offset) -> Vec<Value> {
     vec![said(answer), Value::Whole(i64::from(offset.0)), Value::Whole(i64::from(offset.1))]
 }
+
+/// Of a forced run also the slice lent for what it tells, which a refused one leaves as it was.
+fn said_and(answer: Answer<()>, told: &[u64]) -> Vec<Value> {
+    std::iter::once(said(answer)).chain(told.iter().map(|&number| Value::Whole(number as i64))).collect()
+}
+
+const UNTOLD: [u64; 3] = [70, 71, 72];
+const NO_BOX: BoundingBox = BoundingBox { min: World(i32::MIN, i32::MIN), max: World(i32::MIN, i32::MIN) };
 
 // ---- the port's side
 
@@ -239,6 +255,27 @@ impl Lending {
         said_with(answer, self.frame.offset)
     }
 
+    fn run_out(&mut self, count: u32, world: World, bounds: Option<BoundingBox>, budget: usize) -> Vec<Value> {
+        let mut told = Lent::new(&UNTOLD);
+        let answer = side::forced_run(
+            self.pieces.cells_mut(),
+            self.weights.cells_mut(),
+            self.counts.cells_mut(),
+            self.frame.rows,
+            self.frame.cols,
+            self.tiles.cells(),
+            count,
+            world,
+            self.frame.offset,
+            bounds.is_some(),
+            bounds.unwrap_or(NO_BOX),
+            budget,
+            told.cells_mut(),
+        );
+        self.kept &= told.guarded();
+        said_and(answer, told.cells())
+    }
+
     fn act(&mut self, act: Act) -> Vec<Value> {
         let count = act.count.unwrap_or(self.count);
         match act.call {
@@ -249,6 +286,7 @@ impl Lending {
                 Vec::new()
             }
             Call::Widen(pads, wrong) => self.widen(count, pads, wrong),
+            Call::RunOut(world, bounds, budget) => self.run_out(count, world, bounds, budget),
         }
     }
 
@@ -347,6 +385,22 @@ impl<'a> Judge<'a> {
         said_with(refused.map_or(Ok(()), Err), self.frame.offset)
     }
 
+    fn run_out(&mut self, count: u32, world: World, bounds: Option<BoundingBox>, budget: usize) -> Vec<Value> {
+        let (pieces, weights, counts) = (self.board.pieces(), self.board.weights(), self.board.counts());
+        let Frame { rows, cols, offset } = self.frame;
+        let tiles = self.tiles.bytes();
+        if let Some(number) =
+            refusals::forced_run(&pieces, &weights, &counts, rows, cols, tiles, count, world, offset, bounds, budget)
+        {
+            return said_and(Err(number), &UNTOLD);
+        }
+        let shift = self.shift();
+        self.board.set_box(forced_run::text_box(bounds));
+        let ran = forced_run::run_out(&mut self.job, &mut self.board, place(world), shift, budget);
+        self.board.set_box(None);
+        said_and(Ok(()), &ran.told())
+    }
+
     fn act(&mut self, act: Act) -> Vec<Value> {
         let count = act.count.unwrap_or(self.tiles.count());
         match act.call {
@@ -360,6 +414,7 @@ impl<'a> Judge<'a> {
                 Vec::new()
             }
             Call::Widen(pads, wrong) => self.widen(count, pads, wrong),
+            Call::RunOut(world, bounds, budget) => self.run_out(count, world, bounds, budget),
         }
     }
 }
@@ -487,6 +542,42 @@ impl<'a> Draft<'a> {
         Act { call, count: self.count(random, 2 * self.others) }
     }
 
+    /// From a place near a piece or any; one of ten has a box or a budget out of bounds.
+    fn running(&mut self, random: &mut Random) -> Act {
+        let place = self.place(random);
+        let mut bounds = random.percent(30).then(|| inputs::bounds(random, place));
+        let wanted = random.pick(&[0, 1, 2, 3, 5, 8, 12, 4_096]);
+        let mut budget = forced_run::affordable(random, self.tiles.number(), wanted);
+        if random.percent(10) {
+            match &mut bounds {
+                Some(bounds) => inputs::spoil_bounds(random, bounds),
+                None => budget = random.pick(&[4_097, usize::MAX, 1 << 32]),
+            }
+        }
+        Act { call: Call::RunOut(place, bounds, budget), count: self.count(random, self.others) }
+    }
+
+    /// What stands after a forced run, if it is accepted.
+    fn ran(&self, count: u32, world: World, bounds: Option<BoundingBox>, budget: usize) -> Vec<(World, u32)> {
+        let Frame { rows, cols, offset } = self.frame;
+        let mut pieces = vec![1; rows * cols];
+        for &(world, colour) in &self.standing {
+            let Cell(row, col) = self.frame.cell(world).expect("a place on the board");
+            pieces[row * cols + col] = colour + 1;
+        }
+        let (ones, tiles) = (vec![1; rows * cols], self.tiles.bytes());
+        if refusals::forced_run(&pieces, &ones, &ones, rows, cols, tiles, count, world, offset, bounds, budget)
+            .is_some()
+        {
+            return self.standing.clone();
+        }
+        let mut job = if self.greatest() > self.tiles.count() { self.tiles.job_of_all() } else { self.tiles.job() };
+        let mut board = Board::with_pieces(&pieces, [rows, cols]);
+        board.set_box(forced_run::text_box(bounds));
+        forced_run::run_out(&mut job, &mut board, place(world), [offset.0, offset.1], budget);
+        self.frame.standing(&board.pieces())
+    }
+
     /// The board goes on if the act is accepted.
     fn follow(&mut self, act: Act) {
         let count = act.count.unwrap_or(self.tiles.count());
@@ -504,6 +595,7 @@ impl<'a> Draft<'a> {
                 self.standing.retain(|piece| !cleared.contains(&piece.0));
             }
             Call::Widen(pads, None) if fits => self.frame = after(self.frame, pads).unwrap_or(self.frame),
+            Call::RunOut(world, bounds, budget) => self.standing = self.ran(count, world, bounds, budget),
             _ => {}
         }
     }
@@ -534,7 +626,8 @@ impl Input for SequenceInput {
         Shows { answer: true, planes: true, floats: false, refusals: false, lends: true, reads: true }
     }
 
-    /// Two of three have widenings among their acts, and one of two has acts that name another count than the job's.
+    /// Two of three have widenings among their acts, two of three forced runs, mostly with tiles that force much, and one of
+    /// two has acts that name another count than the job's.
     fn random(_: (), random: &mut Random, tiles: &TileList) -> Self {
         let (mut rows, mut cols) = (inputs::side(random), inputs::side(random));
         if rows * cols > 200 && !random.percent(15) {
@@ -542,19 +635,26 @@ impl Input for SequenceInput {
         }
         let frame = Frame { rows, cols, offset: inputs::offset(random) };
         let widens = random.pick(&[0, 8, 20]);
-        let mut draft = Draft::new(random, frame, tiles);
+        let runs = random.pick(&[0, 8, 20]);
+        let tiles = if runs > 0 && random.percent(60) { forced_run::any_forcing(random) } else { tiles.clone() };
+        let mut draft = Draft::new(random, frame, &tiles);
         let mut acts = Vec::new();
         for _ in 0..1 + random.below(40) {
-            let act = if random.percent(widens) { draft.widening(random) } else { draft.piece(random) };
+            let act = match random.below(100) {
+                at if at < widens => draft.widening(random),
+                at if at < widens + runs => draft.running(random),
+                _ => draft.piece(random),
+            };
             draft.follow(act);
             acts.push(act);
         }
-        Self { frame, tiles: tiles.clone(), acts }
+        Self { frame, tiles, acts }
     }
 
     /// Every run of three calls on a 1x3 and on a 3x3 board, where a call is a lay or a lift at any cell; the colour laid
     /// goes with the cell: 1 and 2 by turns. And every run of four calls from a single cell, where a call is a lay or a lift
-    /// there or at a place next to its corner, or one of five widenings.
+    /// there or at a place next to its corner, or one of five widenings; or a lay or a lift there, one of two widenings, or
+    /// a forced run with one of two budgets.
     fn small(_: (), each: &mut dyn FnMut(Self)) {
         for (rows, cols) in [(1, 3), (3, 3)] {
             let places = (0..rows * cols).map(|at| (World((at / cols) as i32, (at % cols) as i32), 1 + at as u32 % 2));
@@ -566,7 +666,9 @@ impl Input for SequenceInput {
         let pads = [[1, 1, 1, 1], [1, 0, 0, 0], [0, 2, 0, 0], [0, 0, 2, 0], [0, 0, 0, 1]];
         let widenings = pads.map(|[left, right, top, bottom]| Call::Widen(Pads { left, right, top, bottom }, None));
         let pieces = places.into_iter().flat_map(|(world, colour)| [Call::Lay(world, colour), Call::Lift(world)]);
-        all_runs((1, 1), &pieces.chain(widenings).collect::<Vec<_>>(), 4, each);
+        all_runs((1, 1), &pieces.clone().chain(widenings).collect::<Vec<_>>(), 4, each);
+        let runs = [1, 4_096].map(|budget| Call::RunOut(World(0, 0), None, budget));
+        all_runs((1, 1), &pieces.take(2).chain(widenings.into_iter().take(2)).chain(runs).collect::<Vec<_>>(), 4, each);
     }
 
     /// Refused calls are among the calls already.
@@ -659,6 +761,7 @@ mod tests {
                 Call::Lift(_) => "lift",
                 Call::Clear(_) => "clear",
                 Call::Widen(..) => "widen",
+                Call::RunOut(..) => "run",
             };
             let answer = judge.act(act);
             if let (Some(count), Some(&Value::Whole(number))) = (act.count, answer.first()) {
@@ -675,11 +778,11 @@ mod tests {
         // colours 1 and 2 of three
         let tiles = TileList::new(vec![1, 2, 1, 2, 1, 2, 1, 2, 1], 3);
         let mut seen = BTreeSet::new();
-        for number in 0..100 {
+        for number in 0..300 {
             seen.extend(answers(&SequenceInput::random((), &mut Random::new(&[number]), &tiles)));
         }
         let (count, cell) = (i64::from(COUNT), i64::from(CELL));
-        for sort in ["lay", "lift", "widen"] {
+        for sort in ["lay", "lift", "widen", "run"] {
             for (answer, order) in [(0, Less), (0, Greater), (count, Greater), (cell, Less), (cell, Greater)] {
                 assert!(seen.contains(&(sort, answer, order)), "{sort}: no answer {answer} under a count {order:?}");
             }

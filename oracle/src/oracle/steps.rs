@@ -470,6 +470,10 @@ impl Board {
         cells(&self.grid.locked_tiles)
     }
 
+    pub fn is_bare(&self, world: Place, offset: Place) -> bool {
+        self.grid.locked_tiles.get(index(world, offset)) == Some(&1)
+    }
+
     pub fn weights(&self) -> Vec<u32> {
         cells(&self.grid.adjacency_weights)
     }
