@@ -17,6 +17,7 @@ use Rattle.rules.specs.Scores.{fractionChecks, layScoreChecks, liftScore
 use Rattle.rules.specs.Probabilities.{Block, normaliseChecks, influenceChecks}
 use Rattle.rules.specs.Board.{Panel, Board, freshChecks, layChecks, liftChecks, weightChecks, recountChecks}
 use Rattle.rules.specs.Widening.{widenChecks}
+use Rattle.rules.specs.ForcedRun.{runChecks}
 use Rattle.rules.specs.declared.World.{World}
 use Rattle.rules.specs.declared.Offset.{Offset}
 use Rattle.rules.specs.declared.Cell.{Cell}
@@ -105,6 +106,9 @@ lift-lowest j count b w = by-order _ refl refl
 
 pub widen-lowest : (j : Panel) (count : ℕ) (b : Board) (p : Pads) (lent : Board) → Lowest (widenChecks j count b p lent)
 widen-lowest j count b p lent = by-order _ refl refl
+
+pub run-lowest : (j : Panel) (count : ℕ) (b : Board) (w : World) (bounds : GenerationBounds) (budget : ℕ) → Lowest (runChecks j count b w bounds budget)
+run-lowest j count b w bounds budget = by-order _ refl refl
 
 pub weight-lowest : (weights : List ℕ) (rows cols : ℕ) (w : World) (o : Offset) → Lowest (weightChecks weights rows cols w o)
 weight-lowest weights rows cols w o = by-order _ refl refl
