@@ -3,6 +3,7 @@ ghost use mathlib.Core.Path.{_≡_};
 ghost use Rattle.base.specs.Refusal.{refusal};
 ghost use Rattle.rules.specs.Board.{boardChecks};
 ghost use Rattle.rules.specs.ForcedRun.{runChecks};
+ghost use Rattle.rules.specs.declared.Offset.{Offset};
 ghost use Rattle.rules.specs.Promises.{before, boardBefore, boardAfter, panel, RunsOut};
 use board_planes::contents_refused;
 use board_planes::lengths_refused;
@@ -25,9 +26,8 @@ fn board_refused(
     cols: usize,
     tiles: &[u8],
     count: u32,
-    offset: Offset,
 ) -> u8
-    ensures { λ r. ⌜ r ≡ refusal (boardChecks (panel rows cols (before tiles) offset) count (boardBefore pieces weights counts)) ⌝ }
+    ensures { λ r. ⌜ ((offset : Offset) → r ≡ refusal (boardChecks (panel rows cols (before tiles) offset) count (boardBefore pieces weights counts))) ⌝ }
 {
     let no = lengths_refused(pieces, weights, counts, rows, cols);
     if no != 0 {
@@ -58,7 +58,7 @@ fn run_refused(
     if budget > rules::MAX_BUDGET {
         return rules::SHAPE;
     }
-    let no = board_refused(pieces, weights, counts, rows, cols, tiles, count, offset);
+    let no = board_refused(pieces, weights, counts, rows, cols, tiles, count);
     if no != 0 {
         return no;
     }

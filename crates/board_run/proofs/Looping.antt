@@ -19,7 +19,7 @@ use Rattle.rules.specs.ForcedRun.{Run, stepped, begun, runOut}
 use Rattle.rules.specs.declared.World.{World}
 use Rattle.rules.specs.declared.GenerationBounds.{GenerationBounds}
 use Rattle.rules.proofs.ForcedRun.{steps-full, steps-none, stays}
-use Rattle.queue_lent.specs.Ring.{Slots, waiting, Ring}
+use Rattle.queue_ring.specs.Ring.{Slots, waiting, Ring}
 use Rattle.board_run.specs.Running.{Going, Turning, Shows}
 use Rattle.board_run.specs.declared.Progress.{Progress}
 use Rattle.board_run.proofs.Going.{Goes, begun-goes, going-step}

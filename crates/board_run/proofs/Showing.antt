@@ -35,9 +35,9 @@ use Rattle.rules.specs.declared.CountAnswer.the-variants.{Is, Refused}
 use Rattle.rules.proofs.ForcedRun.{queuedBy, layingOf, added-room, added-full, laid-then, dropped-then, steps-next}
 use Rattle.bitset_colours.proofs.Colours.{one-only}
 use Rattle.fit_forced.specs.Round.{onlyAt}
-use Rattle.queue_lent.specs.Ring.{Slots, inSlot, slotOf, waiting, Shaped, Ring, Grows}
-use Rattle.queue_lent.proofs.Ring.{next-out}
-use Rattle.queue_lent.proofs.Growing.{room-said, full-said}
+use Rattle.queue_ring.specs.Ring.{Slots, inSlot, slotOf, waiting, Shaped, Ring, Grows}
+use Rattle.queue_ring.proofs.Ring.{next-out}
+use Rattle.queue_ring.proofs.Growing.{room-said, full-said}
 use Rattle.board_run.specs.Running.{Shows, endOf}
 use Rattle.board_run.specs.declared.Progress.{Progress}
 

@@ -1,13 +1,13 @@
 -- A forced run beneath its checks: what it leans on from step to step, and when the numbers, the planes and the slots of the code are those
 -- of a run.
-use Prim.Native.Nat.{ℕ, _+_, _*_, _<_, _≤_}
+use Prim.Native.Nat.{ℕ, _+_, _-_, _*_, _<_, _≤_}
 use mathlib.Core.Path.{_≡_}
 use mathlib.Core.Bool.{true, false}
 use mathlib.Core.List.{List}
 use lib.ListN.{length, getD}
 use Rattle.base.specs.Tables.{Each}
 use Rattle.base.specs.Refusal.{Gives}
-use Rattle.rules.specs.Bounds.{maxWeight, maxBudget}
+use Rattle.rules.specs.Bounds.{maxColours, maxWeight, maxBudget}
 use Rattle.rules.specs.Tests.{offsetFits, onBoard}
 use Rattle.rules.specs.Answers.{runAnswer}
 use Rattle.rules.specs.Board.{Panel, Board}
@@ -16,8 +16,9 @@ use Rattle.rules.specs.declared.World.{World}
 use Rattle.rules.specs.declared.GenerationBounds.{GenerationBounds}
 use Rattle.rules.specs.declared.ForcedPosition.{ForcedPosition}
 use Rattle.rules.specs.declared.RunAnswer.{RunAnswer}
-use Rattle.fit_windows.specs.Ready.{Ready}
-use Rattle.queue_lent.specs.Ring.{Slots, waiting, Ring}
+use Rattle.fit_windows.specs.Ready.{Countable, Ready}
+use Rattle.queue_ring.specs.Ring.{Slots, slotOf, waiting, Ring}
+use Rattle.board_weights.specs.Shares.{Light}
 use Rattle.board_run.specs.declared.Progress.{Progress}
 
 -- what the checks leave at first, and each step after it. A step adds 3 to a weight at most, so that no weight is too large to be added
@@ -38,6 +39,20 @@ pub record Turning (j : Panel) (count : ℕ) (b : Board) (q : Slots) (p : Progre
   pub free : p .full ≡ false
   pub small : p .taken < maxBudget
   pub fewer : p .laid ≤ p .taken
+
+-- an entry may be laid: what a lay of it by the rule alone leans on
+pub record Laying (j : Panel) (b : Board) (e : ForcedPosition) : Type 0 where
+  pub tried : Countable (b .pieces) (j .rows) (j .cols) (j .tiles)
+  pub weights : length (b .weights) ≡ j .rows * j .cols
+  pub counts : length (b .counts) ≡ j .rows * j .cols
+  pub light : Light (b .weights)
+  pub fits : offsetFits (j .offset) ≡ true
+  pub on : onBoard (j .rows) (j .cols) (e .coordinates) (j .offset) ≡ true
+  pub low : e .colour ≤ maxColours
+
+-- the numbers when the entry next out is taken, of which so many were laid then
+abbrev pub taken : Progress → ℕ → Progress
+taken p laid = record { first = slotOf (p .first) 1; len = p .len - 1; taken = p .taken + 1; laid = laid; full = false }
 
 -- the board, the slots and the numbers are those of a run
 pub record Shows (s : Run) (b : Board) (q : Slots) (p : Progress) : Type 0 where

@@ -5,7 +5,7 @@ ghost use mathlib.Core.Bool.{true, not, _&&_};
 ghost use mathlib.Core.List.{List, []};
 ghost use Prim.Native.Nat.{ℕ, _+_, _<_, _≤_};
 ghost use lib.Dec.{ltb};
-ghost use Rattle.rules.specs.Bounds.{maxColours, maxBudget};
+ghost use Rattle.rules.specs.Bounds.{queueRoom, maxBudget};
 ghost use Rattle.rules.specs.Tests.{onWall, onBoard};
 ghost use Rattle.rules.specs.Grid.{flat};
 ghost use Rattle.rules.specs.Board.{Board, entryIn, laid};
@@ -13,16 +13,16 @@ ghost use Rattle.rules.specs.ForcedRun.{Run, stillForced, queueing, stepped, be
 ghost use Rattle.rules.specs.Promises.{before, board, boardBefore, boardAfter, panel};
 ghost use Rattle.fit_windows.specs.Ready.{Ready};
 ghost use Rattle.fit_forced.specs.Round.{Roundable};
-ghost use Rattle.queue_lent.specs.Ring.{Slots, slots, slotsBefore, slotsAfter, Shaped, Ring};
-ghost use Rattle.board_run.specs.Running.{Going, Turning, Shows, endOf, Ends};
+ghost use Rattle.queue_ring.specs.Ring.{Slots, slots, slotsBefore, slotsAfter, Shaped, Ring};
+ghost use Rattle.board_run.specs.Running.{Going, Turning, Laying, taken, Shows, endOf, Ends};
 use board_moves::lay_at;
 use board_near::near_spans;
 use fit_forced::forced_round;
 use fit_forced::only_colour_at;
 use places::cell_of;
-use queue_lent::add_positions;
-use queue_lent::entry_in;
-use queue_lent::slot_of;
+use queue_ring::add_positions;
+use queue_ring::entry_in;
+use queue_ring::slot_of;
 use rules::CountAnswer;
 use rules::ForcedPosition;
 use rules::GenerationBounds;
@@ -71,13 +71,10 @@ fn lay_entry(
     rows: usize,
     cols: usize,
     tiles: &[u8],
-    count: u32,
     offset: Offset,
-    taken: usize,
     entry: ForcedPosition,
 )
-    requires { ⌜ Going (panel rows cols (now tiles) offset) count (board (now pieces) (now weights) (now counts)) [] taken
-        × (taken < maxBudget) × (onBoard rows cols (entry .coordinates) offset ≡ true) × (entry .colour ≤ maxColours) ⌝ }
+    requires { ⌜ Laying (panel rows cols (now tiles) offset) (board (now pieces) (now weights) (now counts)) entry ⌝ }
     ensures { λ _. ⌜ boardAfter pieces weights counts
         ≡ laid (flat rows cols) (before tiles) (boardBefore pieces weights counts) (entryIn (panel rows cols (before tiles) offset) (entry .coordinates)) (entry .colour) ⌝ }
 {
@@ -189,6 +186,21 @@ fn begin(
     )
 }
 
+// The numbers when the entry next out is taken, of which so many were laid then.
+fn after_taking(state: Progress, laid: usize) -> Progress
+    requires { ⌜ (state .first < queueRoom) × (0 < state .len) × (state .taken < maxBudget) ⌝ }
+    ensures { λ r. ⌜ r ≡ taken state laid ⌝ }
+{
+    let first = slot_of(state.first, 1);
+    Progress {
+        first,
+        len: state.len - 1,
+        taken: state.taken + 1,
+        laid,
+        full: false,
+    }
+}
+
 // Takes the entry that is next out: laid if it is still forced, and its forced neighbours queued; otherwise dropped.
 fn turn(
     pieces: &mut [u32],
@@ -212,37 +224,11 @@ fn turn(
         → Shows (stepped (panel rows cols (before tiles) offset) count bounds s) (boardAfter pieces weights counts) (slotsAfter queuerows queuecols queuecolours) r) ⌝ }
 {
     let entry = entry_in(queuerows, queuecols, queuecolours, state.first);
-    let first = slot_of(state.first, 1);
-    let len = state.len - 1;
-    let taken = state.taken + 1;
     if !still_forced(pieces, rows, cols, tiles, count, offset, entry) {
-        return Progress {
-            first,
-            len,
-            taken,
-            laid: state.laid,
-            full: false,
-        };
+        return after_taking(state, state.laid);
     }
-    lay_entry(
-        pieces,
-        weights,
-        counts,
-        rows,
-        cols,
-        tiles,
-        count,
-        offset,
-        state.taken,
-        entry,
-    );
-    let laid = Progress {
-        first,
-        len,
-        taken,
-        laid: state.laid + 1,
-        full: false,
-    };
+    lay_entry(pieces, weights, counts, rows, cols, tiles, offset, entry);
+    let next = after_taking(state, state.laid + 1);
     let place = entry.coordinates;
     queue_round(
         pieces,
@@ -256,7 +242,7 @@ fn turn(
         queuerows,
         queuecols,
         queuecolours,
-        laid,
+        next,
     )
 }
 

@@ -15,7 +15,7 @@ use Rattle.rules.specs.declared.ForcedPositions.{ForcedPositions}
 use Rattle.rules.specs.declared.ForcedPipeline.{ForcedPipeline}
 use Rattle.queue.specs.Runs.{newOnes, noneTwice, QueueCall, adding, taking, queueLeft, comesIn, goesOut, positionIn, queueAfter, allIn, allOut}
 use Rattle.queue_entries.proofs.Entries.{queued-of}
-use Rattle.queue_entries.proofs.Growth.{with-old, with-new, with-one, with-none}
+use Rattle.rules.proofs.Queues.{with-old, with-new, with-one, with-none}
 
 -- the new places stand behind the old ones, in the order in which they were offered
 pub appended : (l more : List ForcedPosition) → withPositions l more ≡ l ++ newOnes l more

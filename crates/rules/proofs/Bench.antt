@@ -14,21 +14,23 @@ use Rattle.base.specs.Tables.{tab, those, fold}
 use Rattle.base.specs.Refusal.{refusal}
 use Rattle.base.specs.Whole.{clip, withinZ}
 use Rattle.rules.specs.Tests.{boardSides, sampleSides, hasLength, tileNumberFits, wholeTiles, colourCount, noneAbove, piecesStored, onWall, offsetFits, onBoard}
-use Rattle.rules.specs.Places.{cellOf, spanOf, firstOf, lastOf, padBefore, padAfter, boxedBefore, boxedAfter, padsOf, boxedPads, extensionBy, extensionOf, boxedExtension, copiedCell, copied}
+use Rattle.rules.specs.Places.{cellOf, samePlace, inBox, spanOf, firstOf, lastOf, padBefore, padAfter, boxedBefore, boxedAfter, padsOf, boxedPads, extensionBy, extensionOf, boxedExtension, copiedCell, copied}
 use Rattle.rules.specs.Sets.{has, bitsOf, coloursOf, membersOf}
 use Rattle.rules.specs.Tiles.{sampleCell, windowTile, rotated, reflected, turned, form, variant, sameTile, hasTile, withTile, distinct, extracted, extraction, storeAfter, storeWith}
 use Rattle.rules.specs.Grid.{entryOrPast, flat}
 use Rattle.rules.specs.Fit.{agrees, fitsTile, fitCount, hasFitting, allows, leftAfter, listing}
-use Rattle.rules.specs.Forced.{neighbour, admits, boundsFit, forcesOne, isForced, forcedThere, forcedRound, padded, positionsOf, forcedNeighbours, deadAt, deadEnd}
+use Rattle.rules.specs.Forced.{neighbour, admits, boundsFit, forcesOne, isForced, forcedThere, forcedRound, padded, positionsOf, forcedNeighbours, isQueued, withPosition, withPositions, deadAt, deadEnd}
 use Rattle.rules.specs.Probabilities.{largestOf, totalOf, normalised}
 use Rattle.rules.specs.Board.{Panel, Board, weightsOf, countsOf, raised, lowered, recounted, laid, lifted, freshBoard, afterLay, afterLift}
+use Rattle.rules.specs.ForcedRun.{stillForced, queueing, taking, stepped, begun, runOut, runChecks, running, afterRun}
 use Rattle.rules.specs.Widening.{widenedPieces, widenedWeights, widened, widening, afterWiden}
 use Rattle.rules.specs.Promises.{board, panel}
 use Rattle.rules.specs.declared.World.{World}
 use Rattle.rules.specs.declared.Offset.{Offset}
 use Rattle.rules.specs.declared.BoundingBox.{BoundingBox}
 use Rattle.rules.specs.declared.Pads.{Pads}
-use Rattle.rules.specs.declared.GenerationBounds.the-variants.{Unbounded}
+use Rattle.rules.specs.declared.GenerationBounds.{GenerationBounds}
+use Rattle.rules.specs.declared.GenerationBounds.the-variants.{Unbounded, Within}
 use Rattle.rules.specs.declared.ForcedPosition.{ForcedPosition}
 use Rattle.rules.specs.declared.ForcedAnswer.{ForcedAnswer}
 use Rattle.rules.specs.declared.Listing.{Listing}
@@ -39,6 +41,8 @@ use Rattle.rules.specs.declared.TileNumber.{TileNumber}
 use Rattle.rules.specs.declared.TileNumber.the-variants as TileNumber·
 use Rattle.rules.specs.declared.WidenAnswer.{WidenAnswer}
 use Rattle.rules.specs.declared.WidenAnswer.the-variants as WidenAnswer·
+use Rattle.rules.specs.declared.RunAnswer.{RunAnswer}
+use Rattle.rules.specs.declared.RunAnswer.the-variants as RunAnswer·
 use Rattle.rules.specs.declared.ExtensionAnswer.{ExtensionAnswer}
 use Rattle.rules.specs.declared.ExtensionAnswer.the-variants as ExtensionAnswer·
 
@@ -67,6 +71,13 @@ padded-by (ExtensionAnswer·.Refused n) = n ∷ []
 abbrev offset-of : WidenAnswer → List ℕ
 offset-of (WidenAnswer·.Widened o) = 0 ∷ clip (o .0 +ℤ pos 1000) ∷ clip (o .1 +ℤ pos 1000) ∷ []
 offset-of (WidenAnswer·.Refused n) = n ∷ []
+
+-- how a forced run ended, 0 done, 1 spent, 2 full; how many entries were taken, and how many laid
+abbrev ended : RunAnswer → List ℕ
+ended (RunAnswer·.Done taken laid) = 0 ∷ 0 ∷ taken ∷ laid ∷ []
+ended (RunAnswer·.Spent taken laid) = 0 ∷ 1 ∷ taken ∷ laid ∷ []
+ended (RunAnswer·.Full taken laid) = 0 ∷ 2 ∷ taken ∷ laid ∷ []
+ended (RunAnswer·.Refused n) = n ∷ []
 
 -- row, column and colour of each place; the coordinates are not negative in these cases
 abbrev spots : List ForcedPosition → List ℕ
@@ -128,6 +139,24 @@ single = panel 1 1 (1 ∷ 1 ∷ 2 ∷ 1 ∷ 1 ∷ 1 ∷ 1 ∷ 1 ∷ 1 ∷ []) or
 
 abbrev placed : Board
 placed = afterLay single 2 (freshBoard 1 1) (at 0 0) 1
+
+-- forced runs from the centre of the chequer board, and on a row of three bare cells
+abbrev ran : Board → ℕ → RunAnswer
+ran b budget = running three 2 b (at 1 1) Unbounded budget
+
+abbrev row : List ℕ → Panel
+row tiles = panel 1 3 tiles origin
+
+abbrev plain : Panel
+plain = row (replicate 9 1)
+
+-- 112/121/121 and 121/211/211: each cell lists 1, and with 1 at the third cell the second lists nothing
+abbrev closing : Panel
+closing = row (1 ∷ 1 ∷ 2 ∷ 1 ∷ 2 ∷ 1 ∷ 1 ∷ 2 ∷ 1 ∷ 1 ∷ 2 ∷ 1 ∷ 2 ∷ 1 ∷ 1 ∷ 2 ∷ 1 ∷ 1 ∷ [])
+
+-- the second cell alone
+abbrev second : GenerationBounds
+second = Within (record { min = at 0 1; max = at 0 1 })
 
 -- a panel of two rows and one column, its weights by no rule
 abbrev narrow : Panel
@@ -213,6 +242,24 @@ table =
     -- and of several faults the lowest: planes too short, and a weight and an offset out of bounds
     ∷ case (offset-of (widening (panel 2 1 chequer (record { 0 = pos 1000001; 1 = pos 0 })) 2 heavy (pads 1 0 2 1) (room 11))) (2 ∷ [])
     ∷ case (offset-of (widening (panel 2 1 chequer (record { 0 = pos 1000001; 1 = pos 0 })) 2 heavy (pads 1 0 2 1) (room 12))) (4 ∷ [])
+    -- Document 02, request 2. Chequer with 1 at the centre: all eight neighbours are forced, and taken row by row
+    ∷ case (ended (ran centre 0)) (0 ∷ 1 ∷ 0 ∷ 0 ∷ [])
+    ∷ case (ended (ran centre 4)) (0 ∷ 1 ∷ 4 ∷ 4 ∷ [])
+    ∷ case (afterRun three 2 centre (at 1 1) Unbounded 4 .pieces) (2 ∷ 3 ∷ 2 ∷ 3 ∷ 2 ∷ 1 ∷ 1 ∷ 1 ∷ 1 ∷ [])
+    ∷ case (ended (ran centre 7)) (0 ∷ 1 ∷ 7 ∷ 7 ∷ [])
+    ∷ case (ended (ran centre 8)) (0 ∷ 0 ∷ 8 ∷ 8 ∷ [])
+    -- nothing waits: done, also at budget 0
+    ∷ case (ended (ran fresh 0)) (0 ∷ 0 ∷ 0 ∷ 0 ∷ [])
+    -- an entry whose cell lists nothing any more is taken and dropped
+    ∷ case (ended (running closing 2 (freshBoard 3 2) (at 0 1) Unbounded 9)) (0 ∷ 0 ∷ 3 ∷ 2 ∷ [])
+    ∷ case (afterRun closing 2 (freshBoard 3 2) (at 0 1) Unbounded 9 .pieces) (2 ∷ 1 ∷ 2 ∷ [])
+    -- a box keeps later addings inside too
+    ∷ case (ended (running plain 1 (freshBoard 3 1) (at 0 0) second 9)) (0 ∷ 0 ∷ 1 ∷ 1 ∷ [])
+    ∷ case (afterRun plain 1 (freshBoard 3 1) (at 0 0) second 9 .pieces) (1 ∷ 2 ∷ 1 ∷ [])
+    -- the largest budget, one more, and of several faults the lowest
+    ∷ case (refusal (runChecks three 2 centre (at 1 1) Unbounded 4096) ∷ []) (0 ∷ [])
+    ∷ case (ended (ran centre 4097)) (1 ∷ [])
+    ∷ case (ended (running three 0 centre (at 3 3) (Within box) 4097)) (1 ∷ [])
     ∷ []
 
 -- a case holds where what is got is what is due
@@ -227,5 +274,5 @@ hold [] = true
 hold (x ∷ xs) = same (x .got) (x .due) && hold xs
 
 pub bench : hold table ≡ true
-unfolding hold same table every some sum tally first within tab those fold refusal withinZ boardSides sampleSides hasLength tileNumberFits wholeTiles colourCount noneAbove piecesStored onWall offsetFits onBoard cellOf spanOf firstOf lastOf padBefore padAfter boxedBefore boxedAfter padsOf boxedPads extensionBy extensionOf boxedExtension has bitsOf coloursOf sampleCell windowTile rotated reflected turned form variant sameTile hasTile withTile distinct extracted extraction storeAfter storeWith entryOrPast flat agrees fitsTile fitCount hasFitting allows leftAfter listing neighbour admits boundsFit forcesOne isForced forcedThere forcedRound padded positionsOf forcedNeighbours deadAt deadEnd largestOf totalOf normalised weightsOf countsOf raised lowered recounted laid lifted freshBoard afterLay afterLift copiedCell copied widenedPieces widenedWeights widened afterWiden lt le add mul div ofBits ofInt toBits
+unfolding hold same table every some sum tally first within tab those fold refusal withinZ boardSides sampleSides hasLength tileNumberFits wholeTiles colourCount noneAbove piecesStored onWall offsetFits onBoard cellOf spanOf firstOf lastOf padBefore padAfter boxedBefore boxedAfter padsOf boxedPads extensionBy extensionOf boxedExtension has bitsOf coloursOf sampleCell windowTile rotated reflected turned form variant sameTile hasTile withTile distinct extracted extraction storeAfter storeWith entryOrPast flat agrees fitsTile fitCount hasFitting allows leftAfter listing neighbour admits boundsFit forcesOne isForced forcedThere forcedRound padded positionsOf forcedNeighbours deadAt deadEnd largestOf totalOf normalised weightsOf countsOf raised lowered recounted laid lifted freshBoard afterLay afterLift copiedCell copied widenedPieces widenedWeights widened afterWiden samePlace inBox isQueued withPosition withPositions stillForced queueing taking stepped begun runOut running afterRun lt le add mul div ofBits ofInt toBits
 bench = refl

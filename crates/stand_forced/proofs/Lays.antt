@@ -4,28 +4,41 @@
 --     forced-lays   as calls, on a board that is what its pieces say: each is accepted, and they leave the board that the run leaves,
 --                   which is what its pieces say too (forced-said)
 --     forced-adds-none    a forced run adds no colour to a cell's list, on any board
--- On other boards a lay as a call may be refused where the run goes on: a lent weight may stand at the largest, and the second lay would
--- meet CELL. Assumes nothing.
-use Prim.Native.Nat.{ℕ, _+_}
+--     forced-raises-none  and raises no count, on any board whose counts are what its pieces say
+--     heavy-goes-on  on other boards a lay as a call may be refused where the run goes on: lent weights stand at the largest, and the second
+--                   lay meets CELL
+-- Assumes nothing.
+use Prim.Native.Nat.{ℕ, _+_, _≤_}
 use mathlib.Core.Path.{_≡_, refl, sym, _∙_, ap, subst}
 use mathlib.Core.Bool.{Bool, true, false}
 use mathlib.Core.List.{List, [], _∷_, _++_, map, map-append, map-map}
-use Rattle.base.specs.Tables.{fold}
+use native.Mathlib.Nat.{le-refl, le-trans}
+use lib.IntN.{pos}
+use lib.ListN.{getD, set, replicate}
+use Rattle.base.specs.Counting.{every, some, within}
+use Rattle.base.specs.Tables.{tab, those, fold}
 use Rattle.base.specs.Refusal.{refusal}
+use Rattle.base.specs.Whole.{withinZ}
 use Rattle.base.proofs.Bools.{not-is-true}
 use Rattle.base.proofs.Chain.{either}
 use Rattle.base.proofs.Tabled.{fold-last}
-use Rattle.rules.specs.Tests.{piecesStored}
-use Rattle.rules.specs.Grid.{laidOn}
-use Rattle.rules.specs.Fit.{lists}
-use Rattle.rules.specs.Board.{Panel, Board, shapeOf, entryIn, laid, boardOf}
-use Rattle.rules.specs.ForcedRun.{Run, stillForced, runChecks, runOut, afterRun}
+use Rattle.rules.specs.Tests.{boardSides, hasLength, tileNumberFits, wholeTiles, colourCount, noneAbove, piecesStored, onWall, offsetFits, onBoard}
+use Rattle.rules.specs.Sets.{coloursOf}
+use Rattle.rules.specs.Grid.{laidOn, entryOrPast, flat}
+use Rattle.rules.specs.Places.{cellOf, samePlace}
+use Rattle.rules.specs.Fit.{agrees, fitsTile, hasFitting, allows, leftAfter, lists}
+use Rattle.rules.specs.Forced.{neighbour, admits, boundsFit, forcesOne, isForced, forcedThere, forcedRound, isQueued, withPosition, withPositions}
+use Rattle.rules.specs.Board.{Panel, Board, shapeOf, entryIn, countsOf, boardOf, raised, recounted, laid, layChecks, afterLay}
+use Rattle.rules.specs.ForcedRun.{Run, stillForced, queueing, taking, stepped, begun, runOut, runChecks, afterRun}
+use Rattle.rules.specs.Promises.{board, panel}
 use Rattle.rules.specs.declared.World.{World}
 use Rattle.rules.specs.declared.GenerationBounds.{GenerationBounds}
+use Rattle.rules.specs.declared.GenerationBounds.the-variants.{Unbounded}
 use Rattle.rules.specs.declared.ForcedPosition.{ForcedPosition}
-use Rattle.rules.proofs.Fewer.{lists-fewer, under-lay}
+use Rattle.rules.proofs.Choices.{corner}
+use Rattle.rules.proofs.Fewer.{lists-fewer, under-lay, recount-less}
 use Rattle.stand.specs.Runs.{Call, lay, Act, run, acceptedIn, Piece, laidAll, lays}
-use Rattle.stand.proofs.Shared.{Sound}
+use Rattle.stand.proofs.Shared.{Sound, recount}
 use Rattle.stand.proofs.Calls.{Taken, Good, ofPieces, puts, changed-is, puts-good, puts-stored}
 use Rattle.stand.proofs.Order.{withPieces, Lays, then-lays, as-run}
 use Rattle.stand_forced.specs.Moves.{laysOf}
@@ -99,6 +112,38 @@ module _ (j : Panel) (count : ℕ) (bounds : GenerationBounds) (b : Board) (plac
       either (λ (c : Board). lists (shapeOf j) (j .tiles) (c .pieces) k t ≡ true → lists (shapeOf j) (j .tiles) (b .pieces) k t ≡ true)
       (refusal (runChecks j count b place bounds budget)) (λ e. run-adds-none budget k t) (λ on. on)
 
+  -- ---- and raises no count
+
+  module _ (sound : Sound (shapeOf j)) (said : b .counts ≡ countsOf (shapeOf j) (j .tiles) (b .pieces)) where
+    -- the counts of a board are what its pieces say, and none is above what it was at first
+    abbrev NoneRaised : Board → Type 0
+    NoneRaised c = (c .counts ≡ countsOf (shapeOf j) (j .tiles) (c .pieces)) × ((k : ℕ) → getD (c .counts) k 0 ≤ getD (b .counts) k 0)
+
+    lay-raises-none : (c : Board) (e : ForcedPosition) → stillForced j count c e ≡ true → NoneRaised c
+        → NoneRaised (laid (shapeOf j) (j .tiles) c (entryIn j (e .coordinates)) (e .colour))
+    unfolding laid
+    lay-raises-none c e still (is, low) =
+        let i : ℕ = entryIn j (e .coordinates) in
+        let q : List ℕ = set (c .pieces) i (e .colour + 1) in (
+          ap (recounted (shapeOf j) (j .tiles) q i) is ∙ recount (shapeOf j) sound (j .tiles) (c .pieces) i (e .colour + 1),
+          (λ k.
+              le-trans
+              (subst (λ (l : List ℕ). getD (recounted (shapeOf j) (j .tiles) q i l) k 0 ≤ getD l k 0) (sym is)
+              (recount-less (shapeOf j) (j .tiles) (c .pieces) q i k (under-lay _ _ _ (still-off j count c e still))))
+              (low k)),
+        )
+
+    run-raises-none : (n : ℕ) → NoneRaised (at n .board)
+    run-raises-none =
+        by-run j count bounds b place (λ s. NoneRaised (s .board)) (said, (λ k. le-refl _)) (λ n e rest h q drop. h)
+        (λ n e rest h q still l full a. lay-raises-none (at n .board) e still h)
+
+    pub forced-raises-none : (budget k : ℕ) → getD (afterRun j count b place bounds budget .counts) k 0 ≤ getD (b .counts) k 0
+    unfolding afterRun
+    forced-raises-none budget k =
+        either (λ (c : Board). getD (c .counts) k 0 ≤ getD (b .counts) k 0)
+        (refusal (runChecks j count b place bounds budget)) (λ e. run-raises-none budget .1 k) (le-refl _)
+
 -- ---- as calls
 
 module _ (j : Panel) (sound : Sound (shapeOf j)) (count : ℕ) (bounds : GenerationBounds) (p : List ℕ) (good : Good j p) (place : World) (budget : ℕ)
@@ -168,3 +213,24 @@ module _ (j : Panel) (sound : Sound (shapeOf j)) (count : ℕ) (bounds : Generat
   forced-said n =
       let f = follows n in
       subst (λ (d : Board). (d ≡ ofPieces j (d .pieces)) × Good j (d .pieces)) (sym (f .is)) (refl, f .fine)
+
+-- ---- boards that are not what their pieces say
+
+-- three cells in a row, one tile of one colour, and lent weights that stand at the largest
+abbrev row : Panel
+row = panel 1 3 (replicate 9 1) (record { 0 = pos 0; 1 = pos 0 })
+
+abbrev heavy : Board
+heavy = board (replicate 3 1) (replicate 3 4000000000) (replicate 3 1)
+
+abbrev cellAt : ℕ → ForcedPosition
+cellAt k = record { coordinates = record { 0 = pos 0; 1 = pos k }; colour = 1 }
+
+-- the run lays all three; as calls, the first of its lays is accepted, and the second refused
+pub heavy-goes-on : (refusal (runChecks row 1 heavy corner Unbounded 3) ≡ 0)
+    × (runOut row 1 Unbounded heavy corner 3 .lain ≡ cellAt 1 ∷ cellAt 0 ∷ cellAt 2 ∷ [])
+    × (afterRun row 1 heavy corner Unbounded 3 .pieces ≡ 2 ∷ 2 ∷ 2 ∷ [])
+    × (refusal (layChecks row 1 heavy (cellAt 1 .coordinates) 1) ≡ 0)
+    × (refusal (layChecks row 1 (afterLay row 1 heavy (cellAt 1 .coordinates) 1) (cellAt 0 .coordinates) 1) ≡ 4)
+unfolding fold refusal within withinZ every some tab those boardSides hasLength tileNumberFits wholeTiles colourCount noneAbove piecesStored onWall offsetFits onBoard afterLay laid raised recounted leftAfter allows hasFitting fitsTile agrees flat entryOrPast cellOf coloursOf forcesOne isForced forcedThere forcedRound neighbour admits boundsFit samePlace isQueued withPosition withPositions stillForced queueing taking stepped begun runOut afterRun
+heavy-goes-on = (refl, refl, refl, refl, refl)

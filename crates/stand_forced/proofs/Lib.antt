@@ -1,4 +1,5 @@
 pub mod Steps
+pub mod Box
 pub mod Waiting
 pub mod Lays
 pub mod Moves

@@ -43,8 +43,6 @@ use Rattle.rules.proofs.Listed.{listed-less, still-in}
 use Rattle.stand_forced.proofs.Steps.{After, by-taking, all-taken}
 use Rattle.stand_forced.proofs.Waiting.{Entered, enters, Apart, Waits, forced-one, keeps, next-kept, drop-is}
 
--- ---- numbers of cells
-
 -- ---- what waits
 
 -- each entry of a queue is queued

@@ -3,21 +3,26 @@
 --     as-acts        moves from a fresh board leave what the acts leave that they count as
 --     each-accepted  at any moment of such a run, the lays that a forced run counts as are each accepted, and leave what it leaves
 --     moves-stand, flat-moves-stand    so panel and board are what the accepted acts say, as without forced runs
+--     moves-counted, flat-moves-counted    and the counts are what the pieces say; a forced run then raises none (moves-raise-none,
+--                    flat-moves-raise-none)
 --     forced-stay, flat-forced-stay    the auditor's question: a piece is laid and later lifted. The plan is as if it had never lain there,
 --                    with each forced run between replaced by the lays that it made: what it laid stays
 --     can-stay       why it is replaced: without the piece the same run may lay less
+--     forced-never, flat-forced-never    the same of a piece that a forced run laid: that run is replaced by its other lays
 --     only-acts, only-run    where no forced run is made, all this is demand 3 as it was
 -- Move by move, on the plans of demand 3; all else from its theorems. Assumes nothing.
-use Prim.Native.Nat.{ℕ, zero, suc}
+use Prim.Native.Nat.{ℕ, zero, suc, _≤_}
 use mathlib.Core.Path.{_≡_, refl, sym, _∙_, ap, subst}
-use mathlib.Core.List.{List, [], _∷_, _++_, map, append-assoc, append-nil}
+use mathlib.Core.List.{List, [], _∷_, _++_, map, map-append, append-assoc, append-nil}
+use native.Mathlib.Nat.{le-refl}
+use native.Mathlib.Omega.{arith}
 use lib.IntN.{pos}
-use lib.ListN.{replicate}
+use lib.ListN.{length, replicate}
 use Rattle.base.specs.Counting.{every, some, within}
 use Rattle.base.specs.Tables.{tab, those, fold}
 use Rattle.base.specs.Refusal.{refusal, unlessRefused}
 use Rattle.base.specs.Whole.{withinZ}
-use Rattle.base.proofs.Chain.{either}
+use Rattle.base.proofs.Chain.{either, has-new}
 use Rattle.base.proofs.Tabled.{fold-append}
 use Rattle.rules.specs.Tests.{boardSides, hasLength, tileNumberFits, wholeTiles, colourCount, noneAbove, piecesStored, onWall, offsetFits, onBoard}
 use Rattle.rules.specs.Sets.{coloursOf}
@@ -25,7 +30,7 @@ use Rattle.rules.specs.Grid.{Kind, entryOrPast, flat}
 use Rattle.rules.specs.Places.{cellOf}
 use Rattle.rules.specs.Fit.{agrees, fitsTile, fitCount, hasFitting, allows, leftAfter}
 use Rattle.rules.specs.Forced.{neighbour, admits, boundsFit, forcesOne, isForced, forcedThere, forcedRound, isQueued, withPosition, withPositions}
-use Rattle.rules.specs.Board.{Panel, raised, recounted, laid, lifted, freshBoard, afterLay, afterLift}
+use Rattle.rules.specs.Board.{Panel, entryIn, raised, recounted, laid, lifted, freshBoard, afterLay, afterLift}
 use Rattle.rules.specs.ForcedRun.{stillForced, queueing, taking, stepped, begun, runOut, afterRun}
 use Rattle.rules.specs.Promises.{panel}
 use Rattle.rules.specs.declared.World.{World}
@@ -35,13 +40,15 @@ use Rattle.rules.specs.declared.GenerationBounds.the-variants.{Unbounded}
 use Rattle.rules.specs.declared.ForcedPosition.{ForcedPosition}
 use Rattle.rules.proofs.Choices.{corner}
 use Rattle.stand.specs.Runs.{State, start, lay, lift, Act, call, widen, refusalIn, acted, run, acceptedIn, Plan, told, stateOf, Naming, elsewhere}
+use Rattle.stand.specs.Choices.{countAt, Counted}
 use Rattle.stand.proofs.Shared.{Sound, SoundKind}
 use Rattle.stand.proofs.Flat.{flat-sound}
 use Rattle.stand.proofs.Plans.{pieces, stateAt, Fine, good-of}
-use Rattle.stand.proofs.Stands.{Widenable, flat-may, opening, opening-fine, movedBy, run-fine, plan-fine, start-is, run-is, run-start, stands}
+use Rattle.stand.proofs.Stands.{Widenable, flat-may, opening, opening-fine, movedBy, run-fine, plan-fine, start-is, run-is, run-start, stands, kind-stays}
 use Rattle.stand.proofs.Never.{may-both, as-if-never}
+use Rattle.stand.proofs.Choices.{run-counted}
 use Rattle.stand_forced.specs.Moves.{Move, act, forced, refusalBy, moved, played, laysOf, countedAs, actsOf, NamingAll}
-use Rattle.stand_forced.proofs.Lays.{forced-lays}
+use Rattle.stand_forced.proofs.Lays.{forced-raises-none, forced-lays}
 
 -- ---- moves one after the other
 
@@ -62,29 +69,67 @@ unfolding played run fold
 only-run s [] = refl
 only-run s (a ∷ acts) = only-run (acted s a) acts
 
+-- lays that name so many colours, and acts of two parts
+names-lays : {count few : ℕ} → few ≡ count → (entries : List ForcedPosition) → Naming count (laysOf few entries)
+unfolding laysOf
+names-lays n [] = tt
+names-lays n (e ∷ entries) = (n, names-lays n entries)
+
+names-both : (count : ℕ) (some others : List Act) → Naming count some → Naming count others → Naming count (some ++ others)
+names-both count [] others h k = k
+names-both count (a ∷ some) others (p, h) k = (p, names-both count some others h k)
+
 -- the acts that moves count as name the colours that the moves name
 names-all : (count : ℕ) (s : State) (moves : List Move) → NamingAll count moves → Naming count (actsOf s moves)
-unfolding actsOf laysOf
+unfolding actsOf
 names-all count s [] names = tt
 names-all count s (act a ∷ moves) (n, names) = (n, names-all count (acted s a) moves names)
 names-all count s (forced few place bounds budget ∷ moves) (n, names) =
-    both (countedAs s (forced few place bounds budget)) _
-    (either (Naming count) (refusalBy s (forced few place bounds budget)) (λ e. lays (runOut (s .panel) few bounds (s .board) place budget .lain)) tt)
+    names-both count (countedAs s (forced few place bounds budget)) _
+    (either (Naming count) (refusalBy s (forced few place bounds budget)) (λ e. names-lays n (runOut (s .panel) few bounds (s .board) place budget .lain)) tt)
     (names-all count (moved s (forced few place bounds budget)) moves names)
-  where
-    both : (some others : List Act) → Naming count some → Naming count others → Naming count (some ++ others)
-    both [] others h k = k
-    both (a ∷ some) others (p, h) k = (p, both some others h k)
 
-    lays : (entries : List ForcedPosition) → Naming count (laysOf few entries)
-    lays [] = tt
-    lays (e ∷ entries) = (n, lays entries)
+-- the lays before an entry, its own, and those after it
+lays-parts : (count : ℕ) (xs : List ForcedPosition) (e : ForcedPosition) (ys : List ForcedPosition)
+    → laysOf count (xs ++ e ∷ ys) ≡ laysOf count xs ++ call (lay count (e .coordinates) (e .colour)) ∷ laysOf count ys
+unfolding laysOf
+lays-parts count xs e ys = map-append _ xs (e ∷ ys)
+
+-- lays ask nothing of the grid
+lays-may : (kind : Kind) (count : ℕ) (entries : List ForcedPosition) → Widenable kind (laysOf count entries)
+unfolding laysOf
+lays-may kind count [] = tt
+lays-may kind count (e ∷ entries) = lays-may kind count entries
 
 -- what acts of two parts ask, each part asks
 may-parts : (kind : Kind) (some others : List Act) → Widenable kind (some ++ others) → Widenable kind some × Widenable kind others
 may-parts kind [] others may = (tt, may)
 may-parts kind (call c ∷ some) others may = may-parts kind some others may
 may-parts kind (widen count p lent ∷ some) others (widens, may) = let r = may-parts kind some others may in ((widens, r .0), r .1)
+
+-- ---- acts that are all accepted
+
+accepted-few : (s : State) (acts : List Act) → length (acceptedIn s acts) ≤ length acts
+unfolding acceptedIn
+accepted-few s [] = omega arith
+accepted-few s (a ∷ acts) =
+    let few = accepted-few (acted s a) acts in
+    either (λ (l : List Act). length l ≤ suc (length acts)) (refusalIn s a) (λ e. omega arith) (omega arith)
+
+-- if no fewer are accepted than there are, the first is, and no fewer of the others
+first-accepted : (n : ℕ) (a : Act) (later acts : List Act) → length later ≤ length acts → suc (length acts) ≤ length (unlessRefused n (a ∷ later) later)
+    → (n ≡ 0) × (length acts ≤ length later)
+first-accepted zero a later acts few all = (refl, omega arith)
+first-accepted (suc n) a later acts few all = absurd (omega arith)
+
+-- so each is accepted at its moment
+at-its-moment : (s : State) (some : List Act) (a : Act) (others : List Act) → length (some ++ a ∷ others) ≤ length (acceptedIn s (some ++ a ∷ others))
+    → refusalIn (run s some) a ≡ 0
+unfolding acceptedIn run fold
+at-its-moment s [] a others all = first-accepted (refusalIn s a) a (acceptedIn (acted s a) others) others (accepted-few (acted s a) others) all .0
+at-its-moment s (x ∷ some) a others all =
+    at-its-moment (acted s x) some a others
+    (first-accepted (refusalIn s x) x (acceptedIn (acted s x) (some ++ a ∷ others)) (some ++ a ∷ others) (accepted-few (acted s x) (some ++ a ∷ others)) all .1)
 
 -- ---- a forced run counts as its lays
 
@@ -155,7 +200,63 @@ module _ (j : Panel) (sound : SoundKind (j .kind)) where
       → played (start j) moves ≡ stateOf (told j (acceptedIn (start j) (actsOf (start j) moves)))
   moves-stand moves may = as-acts moves may ∙ stands j sound (actsOf (start j) moves) may
 
+  -- request 9: the counts are those of demand 3
+  pub moves-counted : (moves : List Move) → Widenable (j .kind) (actsOf (start j) moves) → Counted (played (start j) moves)
+  moves-counted moves may = subst Counted (sym (as-acts moves may)) (run-counted j sound (actsOf (start j) moves) may)
+
+  pub moves-raise-none : (moves : List Move) → Widenable (j .kind) (actsOf (start j) moves) → (count : ℕ) (place : World) (bounds : GenerationBounds) (budget : ℕ)
+      → let s = played (start j) moves in (v : World) → countAt (moved s (forced count place bounds budget)) v ≤ countAt s v
+  moves-raise-none moves may count place bounds budget v =
+      let s : State = played (start j) moves in
+      let kind : s .panel .kind ≡ j .kind = ap (λ (x : State). x .panel .kind) (as-acts moves may) ∙ kind-stays j sound (actsOf (start j) moves) may in
+      forced-raises-none (s .panel) count bounds (s .board) place (subst SoundKind (sym kind) sound _ _) (moves-counted moves may) budget (entryIn (s .panel) v)
+
   -- ---- the auditor's question
+
+  -- moves count as acts, one of them the lay of a piece that is lifted after them all: the plan is that of the acts without the piece's
+  lifted-later : (before among after : List Move) (some others : List Act) (w : World) (count colour : ℕ)
+      → let there = played (start j) before in
+      actsOf there among ≡ some ++ call (lay count w colour) ∷ others
+      → Widenable (j .kind) (actsOf (start j) before) → Widenable (j .kind) some → Widenable (j .kind) others
+      → refusalIn (run there some) (call (lay count w colour)) ≡ 0
+      → Naming count others
+      → played (start j) (before ++ among ++ act (call (lift count w)) ∷ after)
+      ≡ played (start j) (before ++ map act (some ++ elsewhere w others) ++ after)
+  unfolding played run fold
+  lifted-later before among after some others w count colour counted may-before may-some may-others lays names =
+      fold-append moved (start j) (before ++ among) (act (call (lift count w)) ∷ after)
+      ∙ ap (λ (s : State). played s after)
+      (ap (λ (s : State). acted s (call (lift count w)))
+      (as-acts (before ++ among) (subst (Widenable (j .kind)) (sym parts) (may-both (j .kind) first _ may-first may-others))
+      ∙ ap (run (start j)) parts)
+      ∙ sym (fold-append acted (start j) (first ++ call (lay count w colour) ∷ others) (call (lift count w) ∷ []))
+      ∙ as-if-never j sound first others [] w count colour may-first may-others tt
+      (ap (λ (s : State). refusalIn s (call (lay count w colour))) (sym same) ∙ lays) names
+      ∙ ap (run (start j)) (append-nil (first ++ elsewhere w others))
+      ∙ fold-append acted (start j) first (elsewhere w others)
+      ∙ ap (λ (s : State). run s (elsewhere w others)) (sym same)
+      ∙ sym (fold-append acted there some (elsewhere w others))
+      ∙ sym (only-run there (some ++ elsewhere w others))
+      ∙ sym (fold-append moved (start j) before (map act (some ++ elsewhere w others))))
+      ∙ sym (fold-append moved (start j) (before ++ map act (some ++ elsewhere w others)) after)
+    where
+      there : State
+      there = played (start j) before
+
+      first : List Act
+      first = actsOf (start j) before ++ some
+
+      may-first : Widenable (j .kind) first
+      may-first = may-both (j .kind) (actsOf (start j) before) some may-before may-some
+
+      same : run there some ≡ run (start j) first
+      same = ap (λ (s : State). run s some) (as-acts before may-before) ∙ sym (fold-append acted (start j) (actsOf (start j) before) some)
+
+      parts : actsOf (start j) (before ++ among) ≡ first ++ call (lay count w colour) ∷ others
+      parts =
+          acts-append (start j) before among
+          ∙ ap (λ (acts : List Act). actsOf (start j) before ++ acts) counted
+          ∙ sym (append-assoc (actsOf (start j) before) some (call (lay count w colour) ∷ others))
 
   -- "A piece is laid on the plan and later lifted": the plan is that of the same moves without the piece's, where the forced runs between are
   -- the lays that they made, but for those at the piece's own place. `before` and `after` are any moves; those between name the number of
@@ -168,37 +269,49 @@ module _ (j : Panel) (sound : SoundKind (j .kind)) where
       → NamingAll count between
       → played (start j) (before ++ act (call (lay count w colour)) ∷ between ++ act (call (lift count w)) ∷ after)
       ≡ played (start j) (before ++ map act (elsewhere w made) ++ after)
-  unfolding played run fold actsOf
+  unfolding actsOf run fold
   forced-stay before between after w count colour may-before may-between lays names =
-      fold-append moved (start j) (before ++ act (call (lay count w colour)) ∷ between) (act (call (lift count w)) ∷ after)
-      ∙ ap (λ (s : State). played s after)
-      (ap (λ (s : State). acted s (call (lift count w)))
-      (as-acts (before ++ act (call (lay count w colour)) ∷ between) (subst (Widenable (j .kind)) (sym parts) (may-both (j .kind) first _ may-before may-between))
-      ∙ ap (run (start j)) parts)
-      ∙ sym (fold-append acted (start j) (first ++ call (lay count w colour) ∷ made) (call (lift count w) ∷ []))
-      ∙ as-if-never j sound first made [] w count colour may-before may-between tt
-      (ap (λ (s : State). refusalIn s (call (lay count w colour))) (sym same) ∙ lays) (names-all count _ between names)
-      ∙ ap (run (start j)) (append-nil (first ++ elsewhere w made))
-      ∙ fold-append acted (start j) first (elsewhere w made)
-      ∙ ap (λ (s : State). run s (elsewhere w made)) (sym same)
-      ∙ sym (only-run there (elsewhere w made))
-      ∙ sym (fold-append moved (start j) before (map act (elsewhere w made))))
-      ∙ sym (fold-append moved (start j) (before ++ map act (elsewhere w made)) after)
+      lifted-later before (act (call (lay count w colour)) ∷ between) after [] _ w count colour refl may-before tt may-between lays (names-all count _ between names)
+
+  -- the same of a piece that a forced run laid: the run is replaced by the lays that it made before and after the piece. It names the number
+  -- of colours that the moves between name.
+  pub forced-never : (before between after : List Move) (count : ℕ) (place : World) (bounds : GenerationBounds) (budget : ℕ)
+      (xs : List ForcedPosition) (e : ForcedPosition) (ys : List ForcedPosition)
+      → let there = played (start j) before in
+      let m = forced count place bounds budget in
+      let w = e .coordinates in
+      let made = actsOf (moved there m) between in
+      Widenable (j .kind) (actsOf (start j) before) → Widenable (j .kind) made
+      → refusalBy there m ≡ 0
+      → runOut (there .panel) count bounds (there .board) place budget .lain ≡ xs ++ e ∷ ys
+      → NamingAll count between
+      → played (start j) (before ++ m ∷ between ++ act (call (lift count w)) ∷ after)
+      ≡ played (start j) (before ++ map act (laysOf count xs ++ elsewhere w (laysOf count ys ++ made)) ++ after)
+  unfolding actsOf
+  forced-never before between after count place bounds budget xs e ys may-before may-between accepted lain names =
+      lifted-later before (m ∷ between) after (laysOf count xs) (laysOf count ys ++ made) (e .coordinates) count (e .colour)
+      (ap (λ (acts : List Act). acts ++ made) counted ∙ append-assoc (laysOf count xs) (piece ∷ laysOf count ys) made)
+      may-before (lays-may (j .kind) count xs) (may-both (j .kind) (laysOf count ys) made (lays-may (j .kind) count ys) may-between)
+      (at-its-moment there (laysOf count xs) piece (laysOf count ys) (subst (λ (acts : List Act). length acts ≤ length (acceptedIn there acts)) counted all))
+      (names-both count (laysOf count ys) made (names-lays refl ys) (names-all count (moved there m) between names))
     where
       there : State
       there = played (start j) before
 
+      m : Move
+      m = forced count place bounds budget
+
       made : List Act
-      made = actsOf (acted there (call (lay count w colour))) between
+      made = actsOf (moved there m) between
 
-      first : List Act
-      first = actsOf (start j) before
+      piece : Act
+      piece = call (lay count (e .coordinates) (e .colour))
 
-      same : there ≡ run (start j) first
-      same = as-acts before may-before
+      counted : countedAs there m ≡ laysOf count xs ++ piece ∷ laysOf count ys
+      counted = has-new (refusalBy there m) _ [] accepted ∙ ap (laysOf count) lain ∙ lays-parts count xs e ys
 
-      parts : actsOf (start j) (before ++ act (call (lay count w colour)) ∷ between) ≡ first ++ call (lay count w colour) ∷ made
-      parts = acts-append (start j) before (act (call (lay count w colour)) ∷ between)
+      all : length (countedAs there m) ≤ length (acceptedIn there (countedAs there m))
+      all = rw (each-accepted before may-before count place bounds budget .0) (le-refl _)
 
 -- ---- the panels of the calls, whose grid is flat, with nothing asked
 
@@ -208,6 +321,13 @@ module _ (rows cols : ℕ) (tiles : List ℕ) (offset : Offset) where
 
   pub flat-moves-stand : (moves : List Move) → played (start this) moves ≡ stateOf (told this (acceptedIn (start this) (actsOf (start this) moves)))
   flat-moves-stand moves = moves-stand this flat-sound moves (flat-may (actsOf (start this) moves))
+
+  pub flat-moves-counted : (moves : List Move) → Counted (played (start this) moves)
+  flat-moves-counted moves = moves-counted this flat-sound moves (flat-may (actsOf (start this) moves))
+
+  pub flat-moves-raise-none : (moves : List Move) (count : ℕ) (place : World) (bounds : GenerationBounds) (budget : ℕ)
+      → let s = played (start this) moves in (v : World) → countAt (moved s (forced count place bounds budget)) v ≤ countAt s v
+  flat-moves-raise-none moves = moves-raise-none this flat-sound moves (flat-may (actsOf (start this) moves))
 
   pub flat-forced-stay : (before between after : List Move) (w : World) (count colour : ℕ)
       → let there = played (start this) before in
@@ -219,6 +339,21 @@ module _ (rows cols : ℕ) (tiles : List ℕ) (offset : Offset) where
   flat-forced-stay before between after w count colour =
       forced-stay this flat-sound before between after w count colour (flat-may (actsOf (start this) before))
       (flat-may (actsOf (acted (played (start this) before) (call (lay count w colour))) between))
+
+  pub flat-forced-never : (before between after : List Move) (count : ℕ) (place : World) (bounds : GenerationBounds) (budget : ℕ)
+      (xs : List ForcedPosition) (e : ForcedPosition) (ys : List ForcedPosition)
+      → let there = played (start this) before in
+      let m = forced count place bounds budget in
+      let w = e .coordinates in
+      let made = actsOf (moved there m) between in
+      refusalBy there m ≡ 0
+      → runOut (there .panel) count bounds (there .board) place budget .lain ≡ xs ++ e ∷ ys
+      → NamingAll count between
+      → played (start this) (before ++ m ∷ between ++ act (call (lift count w)) ∷ after)
+      ≡ played (start this) (before ++ map act (laysOf count xs ++ elsewhere w (laysOf count ys ++ made)) ++ after)
+  flat-forced-never before between after count place bounds budget xs e ys =
+      forced-never this flat-sound before between after count place bounds budget xs e ys (flat-may (actsOf (start this) before))
+      (flat-may (actsOf (moved (played (start this) before) (forced count place bounds budget)) between))
 
 -- ---- what a piece forces
 

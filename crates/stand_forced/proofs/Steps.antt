@@ -1,7 +1,7 @@
 -- A forced run, followed step by step, on any board and with nothing asked.
 --     by-taking  what holds after an entry is dropped, and after it is laid, holds after it is taken
 --     by-run     what holds at the beginning, and after each entry taken where it held before, holds at every moment
---     taken-low, laid-low    no more entries are taken than the budget has, and none is laid that was not taken
+--     taken-low, laid-low    no more entries are taken than the budget has, and no more are laid than taken
 --     all-taken  while an entry waits, each step took one
 -- After a lay the queue is the rest, or the rest with the forced neighbours: a fact is shown of both at once (`After`). Assumes nothing.
 use Prim.Native.Nat.{ℕ, zero, suc, _<_, _≤_}

@@ -3,7 +3,7 @@
 --     waits, waits-once    so it is of all that wait
 --     taken-waits          and so of the entry that is taken next
 --     still-is, drop-is    it is laid exactly if its cell lists its colour and no other, and dropped exactly if its cell lists nothing
--- Asked of the board are its sides, its offset and the number of its pieces, which the call checks on entry. Assumes nothing.
+-- Asked are the panel's bounds, the number of the pieces and the colours that are named, which the call checks on entry. Assumes nothing.
 use Prim.Native.Nat.{ℕ, _+_, _*_}
 use mathlib.Core.Path.{_≡_, refl, sym, _∙_, ap, subst}
 use mathlib.Core.Bool.{Bool, true, false, not, _&&_, _||_}

@@ -11,7 +11,7 @@ lengths-refused-requires : tie.Need-lengths-refused-requires
 lengths-refused-requires c κs = search needs
 
 returns : tie.Need-returns
-returns c = search (chain, lengths, contents-by) depth 20 fits 5000
+returns c = λ offset. search (chain, lengths, contents-by) depth 20 fits 5000
 
 tile-number-requires : tie.Need-tile-number-requires
 tile-number-requires c κs = search needs
@@ -23,13 +23,13 @@ enum-told : tie.Need-enum-told
 enum-told c = search needs
 
 returns-2 : tie.Need-returns-2
-returns-2 c = search (chain, lengths, contents-by) depth 20 fits 5000
+returns-2 c = λ offset. search (chain, lengths, contents-by) depth 20 fits 5000
 
 contents-refused-requires : tie.Need-contents-refused-requires
 contents-refused-requires c κs = few-tiles _ _ (c .before .before .before .tile-number .ensures) _ (c .before .n .given .1)
 
 returns-3 : tie.Need-returns-3
-returns-3 c = search (chain, lengths, contents-by) depth 20 fits 5000
+returns-3 c = λ offset. search (chain, lengths, contents-by) depth 20 fits 5000
 
 pub board-refused-spec : {M : Type 1} → statement M
 board-refused-spec =

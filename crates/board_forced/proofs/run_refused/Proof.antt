@@ -11,22 +11,22 @@ board-refused-requires : tie.Need-board-refused-requires
 board-refused-requires c κs = search needs
 
 returns-2 : tie.Need-returns-2
-returns-2 c = search chain depth 20 fits 5000
+returns-2 c = search (chain, c .before .board-refused .ensures) depth 20 fits 5000
 
 place-refused-requires : tie.Need-place-refused-requires
 place-refused-requires c κs = search needs
 
 returns-3 : tie.Need-returns-3
-returns-3 c = search chain depth 20 fits 5000
+returns-3 c = search (chain, c .before .before .before .board-refused .ensures) depth 20 fits 5000
 
 bounds-fit-requires : tie.Need-bounds-fit-requires
 bounds-fit-requires c κs = search needs
 
 returns-4 : tie.Need-returns-4
-returns-4 c = search chain depth 20 fits 5000
+returns-4 c = search (chain, c .before .before .before .before .before .board-refused .ensures) depth 20 fits 5000
 
 returns-5 : tie.Need-returns-5
-returns-5 c = search chain depth 20 fits 5000
+returns-5 c = search (chain, c .before .before .before .before .before .board-refused .ensures) depth 20 fits 5000
 
 pub run-refused-spec : {M : Type 1} → statement M
 run-refused-spec =

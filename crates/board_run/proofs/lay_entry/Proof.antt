@@ -21,8 +21,7 @@ enum-told c = search needs
 
 returns : tie.Need-returns
 returns c =
-    let p = c .before .before .before .before .before .before .before .before .pre in
-    spans-there _ _ _ _ _ (p .0) _ (p .2) _ _ (c .enum-told .given .1) (c .before .before .near-spans .ensures)
+    spans-there _ _ _ (c .before .before .before .before .before .before .before .before .pre) _ _ (c .enum-told .given .1) (c .before .before .near-spans .ensures)
 
 cell-of-requires : tie.Need-cell-of-requires
 cell-of-requires c κs = search needs
@@ -30,7 +29,7 @@ cell-of-requires c κs = search needs
 lay-at-requires : tie.Need-lay-at-requires
 lay-at-requires c κs =
     let p = c .before .before .before .before .before .before .before .before .before .before .before .before .before .pre in
-    (movable _ _ _ _ _ (p .0) _ (p .2) (p .1) _ _ _ (c .before .before .before .before .before .rowspan .given .1) (c .before .before .before .before .before .before .before .near-spans .ensures) _ (c .before .before .before .cell-of .ensures), p .3)
+    (movable _ _ _ p _ _ _ (c .before .before .before .before .before .rowspan .given .1) (c .before .before .before .before .before .before .before .near-spans .ensures) _ (c .before .before .before .cell-of .ensures), p .low)
 
 same-length : tie.Need-same-length
 same-length c = search needs

@@ -6,7 +6,7 @@ use mathlib.Core.Path.{refl, sym, _∙_}
 use native.Mathlib.Omega.{arith}
 use borrow.Author.Needs.{needs}
 use Rattle.rules.specs.Promises.{board, panel}
-use Rattle.queue_lent.specs.Ring.{slots}
+use Rattle.queue_ring.specs.Ring.{slots}
 use Rattle.board_run.proofs.Looping.{Looping, loop-from, turning, before-budget, loop-turn, loop-end}
 use Rattle.board_run.proofs.run_out.Statement.{statement}
 use Rattle.board_run.proofs.run_out.Tie as tie

@@ -6,6 +6,7 @@ use Rattle.rules.specs.declared.World.{World}
 use Rattle.rules.specs.declared.Offset.{Offset}
 use Rattle.rules.specs.declared.GenerationBounds.{GenerationBounds}
 use Rattle.rules.specs.declared.ForcedAnswer.{ForcedAnswer}
+use Rattle.boundary_slots.specs.Slots.{boundsFrom}
 use Rattle.boundary_slots.proofs.Storing.{world-is, offset-is}
 use Rattle.boundary.proofs.Back.{passed-on}
 use Rattle.harness_forced.specs.Slices.{forcedLeft}

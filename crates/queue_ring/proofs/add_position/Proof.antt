@@ -1,11 +1,11 @@
--- `queue_lent::add_position` meets its contract: its three exits are the three ways of adding one.
+-- `queue_ring::add_position` meets its contract: its three exits are the three ways of adding one.
 -- Assumes nothing.
 use mathlib.Core.Path.{sym, _∙_}
 use native.Mathlib.Omega.{arith}
 use borrow.Author.Needs.{needs}
-use Rattle.queue_lent.proofs.Growing.{grows-old, grows-none, grows-new}
-use Rattle.queue_lent.proofs.add_position.Statement.{statement}
-use Rattle.queue_lent.proofs.add_position.Tie as tie
+use Rattle.queue_ring.proofs.Growing.{grows-old, grows-none, grows-new}
+use Rattle.queue_ring.proofs.add_position.Statement.{statement}
+use Rattle.queue_ring.proofs.add_position.Tie as tie
 
 is-queued-requires : tie.Need-is-queued-requires
 is-queued-requires c κs = search needs

@@ -1,9 +1,9 @@
--- `queue_lent::entry_in` meets its contract: the entry of the three numbers that were read.
+-- `queue_ring::entry_in` meets its contract: the entry of the three numbers that were read.
 -- Assumes nothing.
 use borrow.Author.Needs.{needs}
-use Rattle.queue_lent.proofs.Ring.{entry-read}
-use Rattle.queue_lent.proofs.entry_in.Statement.{statement}
-use Rattle.queue_lent.proofs.entry_in.Tie as tie
+use Rattle.queue_ring.proofs.Ring.{entry-read}
+use Rattle.queue_ring.proofs.entry_in.Statement.{statement}
+use Rattle.queue_ring.proofs.entry_in.Tie as tie
 
 number-in-requires : tie.Need-number-in-requires
 number-in-requires c κs = search needs

@@ -8,7 +8,7 @@ ghost use lib.ListN.{getD, set};
 ghost use Rattle.rules.specs.Bounds.{queueRoom, addedRoom};
 ghost use Rattle.rules.specs.Forced.{offered, isQueued, withPosition, withPositions};
 ghost use Rattle.rules.specs.Promises.{before, after};
-ghost use Rattle.queue_lent.specs.Ring.{slots, slotsBefore, slotsAfter, inSlot, slotOf, waiting, Ring, Grows};
+ghost use Rattle.queue_ring.specs.Ring.{slots, slotsBefore, slotsAfter, inSlot, slotOf, waiting, Ring, Grows};
 use queue_entries::same_place;
 use rules::CountAnswer;
 use rules::ForcedPosition;

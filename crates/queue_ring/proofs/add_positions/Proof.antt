@@ -1,4 +1,4 @@
--- `queue_lent::add_positions` meets its contract. The loop's invariant: what is still to be added to the entries so far gives what all the
+-- `queue_ring::add_positions` meets its contract. The loop's invariant: what is still to be added to the entries so far gives what all the
 -- positions give, and the entries that waited stand as they did.
 -- Assumes nothing.
 use Prim.Native.Nat.{_≤_, _-_}
@@ -6,10 +6,10 @@ use native.Mathlib.Omega.{arith}
 use borrow.Author.Needs.{needs}
 use lib.ListN.{length-map, length}
 use Rattle.rules.specs.Forced.{offered, noPosition}
-use Rattle.queue_lent.specs.Ring.{slots}
-use Rattle.queue_lent.proofs.Growing.{Adding, adding-from, adding-on, adding-too-far, adding-end}
-use Rattle.queue_lent.proofs.add_positions.Statement.{statement}
-use Rattle.queue_lent.proofs.add_positions.Tie as tie
+use Rattle.queue_ring.specs.Ring.{slots}
+use Rattle.queue_ring.proofs.Growing.{Adding, adding-from, adding-on, adding-too-far, adding-end}
+use Rattle.queue_ring.proofs.add_positions.Statement.{statement}
+use Rattle.queue_ring.proofs.add_positions.Tie as tie
 
 abbrev Inv-loop : tie.InvT-loop
 Inv-loop rows₀ cols₀ colours₀ first len more n grown₀ i₀ rows cols colours grown i = Adding (slots rows₀ cols₀ colours₀) first len more n (slots rows cols colours) grown i

@@ -22,7 +22,7 @@ use Rattle.base.proofs.Tabled.{length-tab, getD-tab, tab-ext, tab-last}
 use Rattle.rules.specs.Bounds.{queueRoom}
 use Rattle.rules.specs.declared.World.{World}
 use Rattle.rules.specs.declared.ForcedPosition.{ForcedPosition}
-use Rattle.queue_lent.specs.Ring.{Slots, slots, inSlot, slotOf, waiting, Shaped}
+use Rattle.queue_ring.specs.Ring.{Slots, slots, inSlot, slotOf, waiting, Shaped}
 
 module _ (s : Slots) (first : ℕ) where
   pub length-waiting : (len : ℕ) → length (waiting s first len) ≡ len

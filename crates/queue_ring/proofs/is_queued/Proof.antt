@@ -1,4 +1,4 @@
--- `queue_lent::is_queued` meets its contract. The loop's invariant: whether the place is among the entries from i on decides whether it is
+-- `queue_ring::is_queued` meets its contract. The loop's invariant: whether the place is among the entries from i on decides whether it is
 -- queued.
 -- Assumes nothing.
 use Prim.Native.Nat.{ℕ, _-_, _^_, _<_}
@@ -17,10 +17,10 @@ use Rattle.rules.specs.Forced.{isQueued, noPosition}
 use Rattle.rules.specs.declared.World.{World}
 use Rattle.rules.specs.declared.ForcedPosition.{ForcedPosition}
 use Rattle.queue_entries.proofs.Places.{search-found, search-on, search-end}
-use Rattle.queue_lent.specs.Ring.{Slots, slots, inSlot, slotOf, waiting}
-use Rattle.queue_lent.proofs.Ring.{whole, length-waiting, waiting-at, place-read}
-use Rattle.queue_lent.proofs.is_queued.Statement.{statement}
-use Rattle.queue_lent.proofs.is_queued.Tie as tie
+use Rattle.queue_ring.specs.Ring.{Slots, slots, inSlot, slotOf, waiting}
+use Rattle.queue_ring.proofs.Ring.{whole, length-waiting, waiting-at, place-read}
+use Rattle.queue_ring.proofs.is_queued.Statement.{statement}
+use Rattle.queue_ring.proofs.is_queued.Tie as tie
 
 abbrev Inv-loop : tie.InvT-loop
 Inv-loop rows cols first len place i₀ i =

@@ -22,8 +22,8 @@ use Rattle.rules.specs.declared.CountAnswer.{CountAnswer}
 use Rattle.rules.specs.declared.CountAnswer.the-variants.{Is, Refused}
 use Rattle.rules.proofs.Queues.{with-old, with-new, one-grows, with-one, with-none, grows}
 use Rattle.queue_entries.proofs.Places.{still, none-left}
-use Rattle.queue_lent.specs.Ring.{Slots, slots, slotOf, waiting, Ring, Grows}
-use Rattle.queue_lent.proofs.Ring.{length-waiting, putLast, put-kept, put-last, put-shaped}
+use Rattle.queue_ring.specs.Ring.{Slots, slots, slotOf, waiting, Ring, Grows}
+use Rattle.queue_ring.proofs.Ring.{length-waiting, putLast, put-kept, put-last, put-shaped}
 
 -- ---- the answer
 
