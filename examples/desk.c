@@ -135,6 +135,8 @@ int main(void)
     struct plan forced = laid;
     run_out(&forced, 0, 0, 3);
     show("pieces", &forced, forced.pieces);
+    /* What waited is forgotten: a larger budget, on the plan as it was. */
+    forced = laid;
     run_out(&forced, 0, 0, 4096);
     show("pieces", &forced, forced.pieces);
 

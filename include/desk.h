@@ -59,7 +59,7 @@ enum desk_refusal {
 
 /* How a forced run ended. */
 enum desk_run_end {
-    DESK_RUN_DONE = 0,  /* no entry waits any more */
+    DESK_RUN_DONE = 0,  /* no entry of this call waits any more; other cells of the board may be forced all the same */
     DESK_RUN_SPENT = 1, /* as many entries were taken as the budget allows, and some still wait */
     DESK_RUN_FULL = 2   /* what the last piece laid forces had no room in the queue; that piece lies, and none of them was queued */
 };
@@ -82,9 +82,9 @@ uint32_t desk_lay(uint32_t *pieces, size_t pieces_len, uint32_t *weights, size_t
                   size_t rows, size_t cols, const uint8_t *tiles, size_t tiles_len, uint32_t count, int32_t row, int32_t col, int32_t down,
                   int32_t across, uint32_t colour);
 
-/* Lifts the piece at a place, whatever its colour. If the plan began as above and only lay, lift and widening changed it, the planes are
- * then as if the piece had never lain there (docs/ANSWER.md has the theorem). A forced run between the lay and the lift may have laid what
- * the piece forced: these pieces stay, and the planes are what the pieces that stand say.
+/* Lifts the piece at a place, whatever its colour. If the plan began as above, only these functions changed it, and no forced run was made
+ * since the piece was laid, the planes are then as if it had never lain there (docs/ANSWER.md has the theorem). A forced run between the lay
+ * and the lift may have laid what the piece forced: these pieces stay, and the planes are what the pieces that stand say.
  * Reads all planes and tiles. Stores 1 in the cell, takes from the weights what lay added, stopping at 0, and counts the same regions anew.
  * Refusals: SHAPE, LENGTH, COUNT, CELL, PLACE, BARE. */
 uint32_t desk_lift(uint32_t *pieces, size_t pieces_len, uint32_t *weights, size_t weights_len, uint32_t *counts, size_t counts_len,
@@ -110,7 +110,8 @@ uint32_t desk_widen(uint32_t *widepieces, size_t widepieces_len, uint32_t *widew
 
 /* Runs out the forced pieces: lays what is forced beside a place, and what that forces in turn. A bare cell is forced if exactly one colour
  * fits there (desk_fitting_colours). The run has a queue of 64 entries, a place and a colour each, empty at first:
- *   - the forced ones of the place's eight neighbours are queued, row by row; whether a piece lies at the place itself does not matter;
+ *   - the forced ones of the place's eight neighbours are queued, row by row. The place itself is not queued at first, and a piece may lie
+ *     there or not; if it is bare and forced, it may be laid later, as a neighbour of its neighbours;
  *   - the first entry is taken. If its cell is still bare and its colour is still the only one that fits, it is laid as desk_lay lays it, and
  *     the forced ones of its own neighbours are queued behind the others; a place that waits already is not queued twice. Otherwise, which
  *     is where no colour fits there any more, it is dropped;
@@ -123,7 +124,10 @@ uint32_t desk_widen(uint32_t *widepieces, size_t widepieces_len, uint32_t *widew
  *   budget        how many entries may be taken, 0 to 4,096. As many as there are bare cells are always enough, and so are 4,096.
  *   ran           is written: how it ended, how many entries were taken, how many of them were laid. Lend three entries; what has no entry is
  *                 not stored, and further ones are left alone.
- * What waits when a run ends SPENT or FULL is forgotten: a further call begins with the neighbours of the place that it names.
+ * What waits when a run ends SPENT or FULL is forgotten, and the same call again does not go on with it: it begins with the neighbours of the
+ * place that it names, and where these are laid by then it is DONE at once. To lay more after SPENT, make the call with a larger budget on the
+ * planes as they were before it; after FULL, name places beside the last pieces laid.
+ * Each entry taken asks which colours fit at its cell, each piece laid asks it of its eight neighbours: the budget is what bounds the time.
  * Reads all planes and tiles. Writes what desk_lay writes, for each piece laid. The checks are made once, before the first: weights that stood
  * near 4,000,000,000 may pass it, and the next call then gets CELL; they do not wrap round.
  * Refusals: SHAPE, LENGTH, COUNT, CELL, PLACE (the place, the offset; with within true also a corner). */
