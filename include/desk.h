@@ -82,9 +82,10 @@ uint32_t desk_lay(uint32_t *pieces, size_t pieces_len, uint32_t *weights, size_t
                   size_t rows, size_t cols, const uint8_t *tiles, size_t tiles_len, uint32_t count, int32_t row, int32_t col, int32_t down,
                   int32_t across, uint32_t colour);
 
-/* Lifts the piece at a place, whatever its colour. If the plan began as above, only these functions changed it, and no forced run was made
- * since the piece was laid, the planes are then as if it had never lain there (docs/ANSWER.md has the theorem). A forced run between the lay
- * and the lift may have laid what the piece forced: these pieces stay, and the planes are what the pieces that stand say.
+/* Lifts the piece at a place, whatever its colour. If the plan began as above, only these functions changed it, the piece was laid by
+ * desk_lay, and no forced run was made since, the planes are then as if it had never lain there (docs/ANSWER.md has the theorem). A forced
+ * run between the lay and the lift, or the one that laid the piece, may have laid what the piece forced: these pieces stay, and the planes
+ * are what the pieces that stand say.
  * Reads all planes and tiles. Stores 1 in the cell, takes from the weights what lay added, stopping at 0, and counts the same regions anew.
  * Refusals: SHAPE, LENGTH, COUNT, CELL, PLACE, BARE. */
 uint32_t desk_lift(uint32_t *pieces, size_t pieces_len, uint32_t *weights, size_t weights_len, uint32_t *counts, size_t counts_len,
@@ -121,7 +122,8 @@ uint32_t desk_widen(uint32_t *widepieces, size_t widepieces_len, uint32_t *widew
  *                 with within true only places of the box with these corners, both included, are queued, at first and later; wall
  *                 coordinates, -1,000,000 to 1,000,000 each. The place itself may lie outside; a box whose least row or column is above its
  *                 greatest has no place. With within false the four numbers are not looked at.
- *   budget        how many entries may be taken, 0 to 4,096. As many as there are bare cells are always enough, and so are 4,096.
+ *   budget        how many entries may be taken, 0 to 4,096. With as many as there are bare cells, or with 4,096, it never ends SPENT; it may
+ *                 still end FULL.
  *   ran           is written: how it ended, how many entries were taken, how many of them were laid. Lend three entries; what has no entry is
  *                 not stored, and further ones are left alone.
  * What waits when a run ends SPENT or FULL is forgotten, and the same call again does not go on with it: it begins with the neighbours of the

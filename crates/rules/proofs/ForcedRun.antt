@@ -1,6 +1,6 @@
 -- A forced run's steps: two cases in which its queue fills, by evaluation, and laws.
 --     last-room      eight neighbours are added to 56 entries, and not to 57
---     lay-stands     the lay after which a run is full stands
+--     lay-stands     full is said, and the lay after which it is said stands
 --     by-steps       what holds at the beginning, and after each taking where it held before, holds at every moment
 --     added-room, added-full    the two ways of queueing: with room for all, and without
 --     laid-then, dropped-then   the two ways of taking
@@ -24,6 +24,7 @@ use Rattle.base.proofs.Bools.{pick-yes, pick-no}
 use Rattle.base.proofs.Numbers.{lt-or-le}
 use Rattle.base.specs.Tables.{tab, those, fold}
 use Rattle.rules.specs.Bounds.{queueRoom}
+use Rattle.rules.specs.Answers.{runAnswer}
 use Rattle.rules.specs.Forced.{withPositions, neighbour, admits, forcesOne, isForced, forcedThere, forcedRound, isQueued, withPosition}
 use Rattle.rules.specs.Board.{Panel, Board, shapeOf, entryIn, laid, freshBoard}
 use Rattle.rules.specs.ForcedRun.{Run, forcedBy, stillForced, queueing, taking, takingFrom, stepped, begun, runOut}
@@ -33,6 +34,7 @@ use Rattle.rules.specs.Grid.{entryOrPast, flat}
 use Rattle.rules.specs.Places.{cellOf, samePlace}
 use Rattle.rules.specs.Fit.{agrees, fitsTile, hasFitting, allows, leftAfter}
 use Rattle.rules.specs.declared.World.{World}
+use Rattle.rules.specs.declared.RunAnswer.the-variants as RunAnswer·
 use Rattle.rules.specs.declared.GenerationBounds.{GenerationBounds}
 use Rattle.rules.specs.declared.ForcedPosition.{ForcedPosition}
 use Rattle.rules.specs.declared.GenerationBounds.the-variants.{Unbounded}
@@ -65,9 +67,10 @@ last-room = (refl, refl, refl, refl)
 abbrev laidLast : Run
 laidLast = taking plain 1 Unbounded (waiting 57) (record { coordinates = record { 0 = pos 1; 1 = pos 1 }; colour = 1 }) (waiting 57 .queue)
 
-pub lay-stands : (laidLast .full ≡ true) × (laidLast .board .pieces ≡ set (freshBoard 9 1 .pieces) 4 2) × (length (laidLast .lain) ≡ 1)
+pub lay-stands : (runAnswer 0 (laidLast .full) (laidLast .queue) (laidLast .taken) (length (laidLast .lain)) ≡ RunAnswer·.Full 1 1)
+    × (laidLast .board .pieces ≡ set (freshBoard 9 1 .pieces) 4 2)
 unfolding stillForced taking laid queueing refusal fold tab those every some freshBoard withPositions withPosition isQueued samePlace forcedRound forcedThere isForced forcesOne neighbour admits onBoard coloursOf leftAfter allows hasFitting fitsTile agrees flat entryOrPast cellOf
-lay-stands = (refl, refl, refl)
+lay-stands = (refl, refl)
 
 module _ (j : Panel) (count : ℕ) (bounds : GenerationBounds) where
   -- the queue with the forced neighbours of a place

@@ -70,7 +70,7 @@ stepped j count bounds s = takingFrom j count bounds s (s .full) (s .queue)
 unfoldable pub begun : Panel → ℕ → GenerationBounds → Board → World → Run
 begun j count bounds b place = queueing j count bounds place (record { board = b; queue = []; taken = 0; lain = []; full = false })
 
--- the run after so many steps as the budget has; one that has ended stays as it is
+-- the run after as many steps as the budget has; one that has ended stays as it is
 unfoldable pub runOut : Panel → ℕ → GenerationBounds → Board → World → ℕ → Run
 runOut j count bounds b place zero = begun j count bounds b place
 runOut j count bounds b place (suc budget) = stepped j count bounds (runOut j count bounds b place budget)

@@ -1,10 +1,10 @@
 -- What a forced run leaves is what its lays leave.
 --     run-board     by the rule of lay alone, on any board: its lays one after the other
 --     run-listed    each of them finds its colour listed at its cell, on any board
---     forced-lays   as calls, on a board that is what its pieces say: each is accepted, and they leave the board that the run leaves,
---                   which is what its pieces say too (forced-said)
+--     forced-lays   as calls, on a grid that is `Sound` and a board that is what its pieces say: each is accepted, and they leave the board
+--                   that the run leaves, which is what its pieces say too (forced-said)
 --     forced-adds-none    a forced run adds no colour to a cell's list, on any board
---     forced-raises-none  and raises no count, on any board whose counts are what its pieces say
+--     forced-raises-none  and raises no count, on any such grid and any board whose counts are what its pieces say
 --     heavy-goes-on  on other boards a lay as a call may be refused where the run goes on: lent weights stand at the largest, and the second
 --                   lay meets CELL
 -- Assumes nothing.
