@@ -1,5 +1,6 @@
 -- Demand 3 with forced runs: a forced run is one more call in the runs over which the auditor's theorem speaks, refused ones included, and
 -- counts as the lays that it made.
+--     counts-so      what a forced run counts as, and a refused one, by evaluation
 --     as-acts        moves from a fresh board leave what the acts leave that they count as
 --     each-accepted  at any moment of such a run, the lays that a forced run counts as are each accepted, and leave what it leaves
 --     moves-stand, flat-moves-stand    so panel and board are what the accepted acts say, as without forced runs
@@ -49,6 +50,25 @@ use Rattle.stand.proofs.Never.{may-both, as-if-never}
 use Rattle.stand.proofs.Choices.{run-counted}
 use Rattle.stand_forced.specs.Moves.{Move, act, forced, refusalBy, moved, played, laysOf, countedAs, actsOf, NamingAll}
 use Rattle.stand_forced.proofs.Lays.{forced-raises-none, forced-lays}
+
+-- ---- two cases, by evaluation
+
+-- two cells side by side, and two tiles, each of one colour: the colour of one cell forces that of the other
+abbrev pair : Panel
+pair = panel 1 2 (replicate 9 1 ++ replicate 9 2) (record { 0 = pos 0; 1 = pos 0 })
+
+-- a forced run beside a piece counts as the lay that it makes; one that is refused, for it names 31 colours, counts as none
+pub counts-so : (actsOf (start pair) (act (call (lay 2 corner 1)) ∷ forced 2 corner Unbounded 1 ∷ [])
+    ≡ call (lay 2 corner 1) ∷ call (lay 2 (record { 0 = pos 0; 1 = pos 1 }) 1) ∷ [])
+    × (actsOf (start pair) (act (call (lay 2 corner 1)) ∷ forced 31 corner Unbounded 1 ∷ []) ≡ call (lay 2 corner 1) ∷ [])
+unfolding actsOf laysOf fold refusal within withinZ every some tab those freshBoard boardSides hasLength tileNumberFits wholeTiles colourCount noneAbove piecesStored onWall offsetFits onBoard afterLay laid raised recounted fitCount leftAfter allows hasFitting fitsTile agrees flat entryOrPast cellOf coloursOf forcesOne isForced forcedThere forcedRound neighbour admits boundsFit isQueued withPosition withPositions stillForced queueing taking stepped begun runOut afterRun
+counts-so = (refl, refl)
+
+-- a piece laid, the forced run, the piece lifted: its neighbour stays. The forced run alone lays nothing
+pub can-stay : (played (start pair) (act (call (lay 2 corner 1)) ∷ forced 2 corner Unbounded 1 ∷ act (call (lift 2 corner)) ∷ []) .board .pieces ≡ 1 ∷ 2 ∷ [])
+    × (played (start pair) (forced 2 corner Unbounded 1 ∷ []) .board .pieces ≡ 1 ∷ 1 ∷ [])
+unfolding played fold refusal within withinZ every some tab those freshBoard boardSides hasLength tileNumberFits wholeTiles colourCount noneAbove piecesStored onWall offsetFits onBoard afterLay afterLift laid lifted raised recounted fitCount leftAfter allows hasFitting fitsTile agrees flat entryOrPast cellOf coloursOf forcesOne isForced forcedThere forcedRound neighbour admits boundsFit isQueued withPosition withPositions stillForced queueing taking stepped begun runOut afterRun
+can-stay = (refl, refl)
 
 -- ---- moves one after the other
 
@@ -354,15 +374,3 @@ module _ (rows cols : ℕ) (tiles : List ℕ) (offset : Offset) where
   flat-forced-never before between after count place bounds budget xs e ys =
       forced-never this flat-sound before between after count place bounds budget xs e ys (flat-may (actsOf (start this) before))
       (flat-may (actsOf (moved (played (start this) before) (forced count place bounds budget)) between))
-
--- ---- what a piece forces
-
--- two cells side by side, and two tiles, each of one colour: the colour of one cell forces that of the other
-abbrev pair : Panel
-pair = panel 1 2 (replicate 9 1 ++ replicate 9 2) (record { 0 = pos 0; 1 = pos 0 })
-
--- a piece laid, the forced run, the piece lifted: its neighbour stays. The forced run alone lays nothing
-pub can-stay : (played (start pair) (act (call (lay 2 corner 1)) ∷ forced 2 corner Unbounded 1 ∷ act (call (lift 2 corner)) ∷ []) .board .pieces ≡ 1 ∷ 2 ∷ [])
-    × (played (start pair) (forced 2 corner Unbounded 1 ∷ []) .board .pieces ≡ 1 ∷ 1 ∷ [])
-unfolding played fold refusal within withinZ every some tab those freshBoard boardSides hasLength tileNumberFits wholeTiles colourCount noneAbove piecesStored onWall offsetFits onBoard afterLay afterLift laid lifted raised recounted fitCount leftAfter allows hasFitting fitsTile agrees flat entryOrPast cellOf coloursOf forcesOne isForced forcedThere forcedRound neighbour admits boundsFit isQueued withPosition withPositions stillForced queueing taking stepped begun runOut afterRun
-can-stay = (refl, refl)
