@@ -1,3 +1,4 @@
 pub mod Packed
 pub mod Flat
 pub mod Windows
+pub mod Patch

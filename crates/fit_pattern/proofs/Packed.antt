@@ -1,15 +1,16 @@
--- Cells read as one number: equal exactly if they are equal cell by cell; `&` goes cell by cell. So a window and a tile, each read as one
--- number, compare as the fit test does.
---     packed-ext, packed-lt, packed-join, packed-none    the number of some cells
---     pair-is, joined, from-first    the cells of a list from one on
---     packed-eq, and-packed    comparison and `&`
+-- Cells read as one number: equal exactly if they are equal cell by cell; `+` and `&` go cell by cell. So a window and a tile, each read as
+-- one number, compare as the fit test does.
+--     packed-ext, packed-lt, packed-join, packed-none, packed-each    the number of some cells
+--     one-is, pair-is, joined    the cells of a list from one on
+--     packed-eq, packed-add, packed-times, and-packed    comparison, `+`, `*` and `&`
+--     laid-bit, masks-is    the masks of some colours at once
 --     masked-fits    the fit test; left-there, ninth-decides its two ways
 -- Assumes nothing.
-use Prim.Native.Nat.{ℕ, zero, suc, _+_, _*_, _/_, _%_, _^_, _<_}
+use Prim.Native.Nat.{ℕ, zero, suc, _+_, _*_, _/_, _%_, _^_, _<_, _≤_}
 use mathlib.Core.Path.{_≡_, refl, sym, _∙_, ap, ap₂, subst}
 use mathlib.Core.Bool.{Bool, true, false, _&&_, _||_}
 use mathlib.Core.List.{List}
-use native.Mathlib.Nat.{lt-suc-self, le-step, add-suc, add-zero, zero-add, mul-assoc, add-assoc, add-mul, mod-eq-of-lt}
+use native.Mathlib.Nat.{lt-suc-self, le-step, add-suc, add-zero, mul-assoc, mul-comm, zero-mul, add-assoc, add-mul, mod-eq-of-lt}
 use native.Mathlib.Omega.{arith}
 use borrow.Author.Tests.{eqb-true, eq-eqb, ne-eqb}
 use lib.Arith.{digits-lt, digits-div, digits-mod}
@@ -21,7 +22,7 @@ use Rattle.base.specs.Counting.{pick, every}
 use Rattle.base.proofs.Bools.{and-left, and-right, and-both, or-left, by-test, same-test}
 use Rattle.base.proofs.Counted.{every-ext}
 use Rattle.rules.specs.Fit.{agrees, agreesAt, fitsTile}
-use Rattle.fit_pattern.specs.Packed.{shownBy, cellsFrom, packed, maskOf, Cells, Masked}
+use Rattle.fit_pattern.specs.Packed.{cellsFrom, packed, maskOf}
 
 pub packed-ext : (n : ℕ) (f g : ℕ → ℕ) → ((i : ℕ) → i < n → f i ≡ g i) → packed n f ≡ packed n g
 unfolding packed
@@ -54,15 +55,16 @@ pub pair-is : (cells : List ℕ) (at : ℕ) → getD cells (at + 1) 0 * 256 + ge
 unfolding packed
 pair-is cells at = let e : getD cells (at + 0) 0 ≡ getD cells at 0 = ap (λ (k : ℕ). getD cells k 0) (add-zero at) in omega arith
 
+pub one-is : (cells : List ℕ) (at : ℕ) → getD cells at 0 ≡ packed 1 (cellsFrom cells at)
+unfolding packed
+one-is cells at = let e : getD cells (at + 0) 0 ≡ getD cells at 0 = ap (λ (k : ℕ). getD cells k 0) (add-zero at) in omega arith
+
 pub joined : (m n : ℕ) (cells : List ℕ) (at : ℕ) {high low : ℕ} → high ≡ packed n (cellsFrom cells (at + m)) → low ≡ packed m (cellsFrom cells at)
     → high * 2 ^ (8 * m) + low ≡ packed (m + n) (cellsFrom cells at)
 joined m n cells at p q =
     rw (p, q)
     (ap (λ (x : ℕ). x * 2 ^ (8 * m) + packed m (cellsFrom cells at)) (packed-ext n _ _ (λ i l. ap (λ (k : ℕ). getD cells k 0) (add-assoc at m i)))
     ∙ sym (packed-join m n (cellsFrom cells at)))
-
-pub from-first : (n : ℕ) (cells : List ℕ) → packed n (cellsFrom cells 0) ≡ packed n (shownBy cells)
-from-first n cells = packed-ext n _ _ (λ i l. ap (λ (k : ℕ). getD cells k 0) (zero-add i))
 
 pub packed-none : (n : ℕ) → packed n (λ i. 0) ≡ 0
 unfolding packed
@@ -99,9 +101,53 @@ and-packed (suc n) f g h k =
     and-block (8 * n) (f n) (g n) (packed n f) (packed n g) (packed-lt n f (λ i l. h i (le-step l))) (packed-lt n g (λ i l. k i (le-step l)))
     ∙ ap (λ (x : ℕ). bitAnd (f n) (g n) * 2 ^ (8 * n) + x) (and-packed n f g (λ i l. h i (le-step l)) (λ i l. k i (le-step l)))
 
+pub packed-add : (n : ℕ) (f g : ℕ → ℕ) → packed n f + packed n g ≡ packed n (λ i. f i + g i)
+unfolding packed
+packed-add zero f g = refl
+packed-add (suc n) f g = omega (arith, packed-add n f g, add-mul (f n) (g n) (2 ^ (8 * n)))
+
+pub packed-times : (n k : ℕ) (f : ℕ → ℕ) → packed n f * k ≡ packed n (λ i. f i * k)
+unfolding packed
+packed-times zero k f = zero-mul k
+packed-times (suc n) k f = add-mul (f n * 2 ^ (8 * n)) (packed n f) k ∙ ap₂ (λ (a b : ℕ). a + b) (swap (f n) (2 ^ (8 * n)) k) (packed-times n k f)
+  where
+    swap : (a b c : ℕ) → a * b * c ≡ a * c * b
+    swap a b c = mul-assoc a b c ∙ ap (λ (x : ℕ). a * x) (mul-comm b c) ∙ sym (mul-assoc a c b)
+
 mask-lt : (b : Bool) → pick b 0 255 < 256
 mask-lt true = omega arith
 mask-lt false = omega arith
+
+-- one colour: with 127 added it reaches the highest bit of a byte exactly if it is not 0
+pub laid-bit : (colour : ℕ) → colour ≤ 128 → bitAnd (colour + 127) 128 ≡ pick (eqb colour 0) 0 1 * 128
+laid-bit zero l = refl
+laid-bit (suc c) l =
+    ap (λ (x : ℕ). bitAnd x 128) (let e : suc c + 127 ≡ 1 * 2 ^ 7 + c = omega arith in e)
+    ∙ and-block 7 1 1 c 0 (omega arith) (omega arith) ∙ ap (λ (x : ℕ). 128 + x) (and-zero-r c)
+    ∙ sym (ap (λ (b : Bool). pick b 0 1 * 128) (ne-eqb (suc c) 0 (λ e. omega arith)))
+
+-- the masks of some colours, as the code makes them
+pub masks-is : (n : ℕ) (f : ℕ → ℕ) → ((i : ℕ) → i < n → f i ≤ 128)
+    → bitAnd (packed n f + packed n (λ i. 127)) (packed n (λ i. 128)) / 128 * 255 ≡ packed n (λ i. maskOf (f i))
+masks-is n f h =
+    ap (λ (x : ℕ). x / 128 * 255)
+    (ap (λ (x : ℕ). bitAnd x (packed n (λ i. 128))) (packed-add n f (λ i. 127))
+    ∙ and-packed n (λ i. f i + 127) (λ i. 128) (λ i l. omega (arith, h i l)) (λ i l. omega arith)
+    ∙ packed-ext n _ _ (λ i l. laid-bit (f i) (h i l))
+    ∙ sym (packed-times n 128 (λ i. pick (eqb (f i) 0) 0 1)))
+    ∙ ap (λ (x : ℕ). x * 255) (back (packed n (λ i. pick (eqb (f i) 0) 0 1)))
+    ∙ packed-times n 255 (λ i. pick (eqb (f i) 0) 0 1)
+    ∙ packed-ext n _ _ (λ i l. mask (eqb (f i) 0))
+  where
+    back : (x : ℕ) → x * 128 / 128 ≡ x
+    back x = omega arith
+
+    mask : (b : Bool) → pick b 0 1 * 255 ≡ pick b 0 255
+    mask true = refl
+    mask false = refl
+
+pub masks-lt : (n : ℕ) (f : ℕ → ℕ) → packed n (λ i. maskOf (f i)) < 2 ^ (8 * n)
+masks-lt n f = packed-lt n _ (λ i l. mask-lt (eqb (f i) 0))
 
 turn : (a b : ℕ) → eqb a b ≡ eqb b a
 turn a b = same-test (eqb a b) (eqb b a) (λ e. eq-eqb b a (sym (eqb-true a b e))) (λ e. eq-eqb a b (sym (eqb-true b a e)))
@@ -122,46 +168,39 @@ masked colour cell l = by-test (eqb colour 0) bare laid
         ∙ turn cell colour ∙ sym (ap (λ (b : Bool). b || eqb colour cell) e)
 
 -- eight cells in one number, and the ninth
-pub masked-fits : (tiles window mask : List ℕ) (n : ℕ) → Masked window mask → ((i : ℕ) → getD tiles i 0 < 256)
-    → (eqb (bitAnd (packed 8 (cellsFrom tiles (n * 9))) (packed 8 (shownBy mask))) (packed 8 (shownBy window))
-    && eqb (bitAnd (cellsFrom tiles (n * 9) 8) (shownBy mask 8)) (shownBy window 8)) ≡ fitsTile tiles (shownBy window) n
-unfolding fitsTile every
-masked-fits tiles window mask n k low = ap₂ _&&_ eight (at 8 (omega arith))
-  where
-    at : (i : ℕ) → i < 9 → eqb (bitAnd (cellsFrom tiles (n * 9) i) (shownBy mask i)) (shownBy window i) ≡ agreesAt tiles (shownBy window) n i
-    at i l =
-        ap (λ (m : ℕ). eqb (bitAnd (cellsFrom tiles (n * 9) i) m) (shownBy window i)) (k .masks i l)
-        ∙ masked (shownBy window i) (cellsFrom tiles (n * 9) i) (low (n * 9 + i))
+module _ (tiles : List ℕ) (shown : ℕ → ℕ) (n : ℕ) (colours : (i : ℕ) → shown i < 256) (low : (i : ℕ) → getD tiles i 0 < 256) where
+  -- what the masks leave of the tile's first eight cells, and the test of its ninth
+  abbrev pub firstLeft : ℕ
+  firstLeft = bitAnd (packed 8 (cellsFrom tiles (n * 9))) (packed 8 (λ i. maskOf (shown i)))
 
-    small : (i : ℕ) → i < 8 → shownBy mask i < 256
-    small i l = rw (k .masks i (omega arith)) (mask-lt (eqb (shownBy window i) 0))
+  abbrev pub ninth : Bool
+  ninth = eqb (bitAnd (cellsFrom tiles (n * 9) 8) (maskOf (shown 8))) (shown 8)
 
-    eight : eqb (bitAnd (packed 8 (cellsFrom tiles (n * 9))) (packed 8 (shownBy mask))) (packed 8 (shownBy window))
-        ≡ every 8 (agreesAt tiles (shownBy window) n)
-    eight =
-        ap (λ (x : ℕ). eqb x (packed 8 (shownBy window))) (and-packed 8 (cellsFrom tiles (n * 9)) (shownBy mask) (λ i l. low (n * 9 + i)) small)
-        ∙ packed-eq 8 _ _ (λ i l. and-lt 8 (cellsFrom tiles (n * 9) i) (shownBy mask i) (low (n * 9 + i)) (small i l)) (λ i l. k .cells .low i (omega arith))
-        ∙ every-ext _ _ 8 (λ i l. at i (omega arith))
+  pub masked-fits : (eqb firstLeft (packed 8 shown) && ninth) ≡ fitsTile tiles shown n
+  unfolding fitsTile every
+  masked-fits = ap₂ _&&_ eight (at 8)
+    where
+      at : (i : ℕ) → eqb (bitAnd (cellsFrom tiles (n * 9) i) (maskOf (shown i))) (shown i) ≡ agreesAt tiles shown n i
+      at i = masked (shown i) (cellsFrom tiles (n * 9) i) (low (n * 9 + i))
+
+      eight : eqb firstLeft (packed 8 shown) ≡ every 8 (agreesAt tiles shown n)
+      eight =
+          ap (λ (x : ℕ). eqb x (packed 8 shown))
+          (and-packed 8 (cellsFrom tiles (n * 9)) (λ i. maskOf (shown i)) (λ i l. low (n * 9 + i)) (λ i l. mask-lt (eqb (shown i) 0)))
+          ∙ packed-eq 8 _ _ (λ i l. and-lt 8 (cellsFrom tiles (n * 9) i) (maskOf (shown i)) (low (n * 9 + i)) (mask-lt (eqb (shown i) 0))) (λ i l. colours i)
+          ∙ every-ext _ _ 8 (λ i l. at i)
+
+  -- a tile that differs within the first eight cells does not fit; where it does not differ there, the ninth decides
+  pub left-there : (firstLeft ≡ packed 8 shown → ⊥) → false ≡ fitsTile tiles shown n
+  left-there h = sym (ap (λ (b : Bool). b && ninth) (ne-eqb _ _ h)) ∙ masked-fits
+
+  pub ninth-decides : firstLeft ≡ packed 8 shown → ninth ≡ fitsTile tiles shown n
+  ninth-decides h = sym (ap (λ (b : Bool). b && ninth) (eq-eqb _ _ h)) ∙ masked-fits
 
 -- eight cells and the ninth are all 0
-pub bare-cells : (window : List ℕ) → Cells window → (eqb (packed 8 (shownBy window)) 0 && eqb (shownBy window 8) 0) ≡ every 9 (λ i. eqb (shownBy window i) 0)
+pub bare-cells : (shown : ℕ → ℕ) → ((i : ℕ) → shown i < 256) → (eqb (packed 8 shown) 0 && eqb (shown 8) 0) ≡ every 9 (λ i. eqb (shown i) 0)
 unfolding every
-bare-cells window k =
-    ap (λ (b : Bool). b && eqb (shownBy window 8) 0)
-    (ap (λ (z : ℕ). eqb (packed 8 (shownBy window)) z) (sym (packed-none 8))
-    ∙ packed-eq 8 (shownBy window) (λ i. 0) (λ i l. k .low i (omega arith)) (λ i l. omega arith))
-
--- a tile that differs within the first eight cells does not fit; where it does not differ there, the ninth decides
-pub left-there : (tiles window mask : List ℕ) (n : ℕ) → Masked window mask → ((i : ℕ) → getD tiles i 0 < 256)
-    → (bitAnd (packed 8 (cellsFrom tiles (n * 9))) (packed 8 (shownBy mask)) ≡ packed 8 (shownBy window) → ⊥)
-    → false ≡ fitsTile tiles (shownBy window) n
-left-there tiles window mask n k low h =
-    sym (ap (λ (b : Bool). b && eqb (bitAnd (cellsFrom tiles (n * 9) 8) (shownBy mask 8)) (shownBy window 8)) (ne-eqb _ _ h))
-    ∙ masked-fits tiles window mask n k low
-
-pub ninth-decides : (tiles window mask : List ℕ) (n : ℕ) → Masked window mask → ((i : ℕ) → getD tiles i 0 < 256)
-    → bitAnd (packed 8 (cellsFrom tiles (n * 9))) (packed 8 (shownBy mask)) ≡ packed 8 (shownBy window)
-    → eqb (bitAnd (cellsFrom tiles (n * 9) 8) (shownBy mask 8)) (shownBy window 8) ≡ fitsTile tiles (shownBy window) n
-ninth-decides tiles window mask n k low h =
-    sym (ap (λ (b : Bool). b && eqb (bitAnd (cellsFrom tiles (n * 9) 8) (shownBy mask 8)) (shownBy window 8)) (eq-eqb _ _ h))
-    ∙ masked-fits tiles window mask n k low
+bare-cells shown low =
+    ap (λ (b : Bool). b && eqb (shown 8) 0)
+    (ap (λ (z : ℕ). eqb (packed 8 shown) z) (sym (packed-none 8))
+    ∙ packed-eq 8 shown (λ i. 0) (λ i l. low i) (λ i l. omega arith))

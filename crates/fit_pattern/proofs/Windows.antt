@@ -1,8 +1,8 @@
--- What a window shows, as the code reads it.
+-- What the code reads of a board.
 --     inside        a cell of the grid has its entry in the plane, and there are few
 --     bare-past     past the edge it is bare
---     read-is       nine colours that were read are the window's
---     read-masked   what is read of a window serves the fit test
+--     read-is       a table that was read shows its colours
+--     colour-known, painted    a cell holds a colour, or 0; so do the cells of a table of them
 -- Assumes nothing.
 use Prim.Native.Nat.{ℕ, _-_, _*_, _<_, _≤_}
 use mathlib.Core.Path.{_≡_, sym, _∙_, ap}
@@ -12,12 +12,11 @@ use native.Mathlib.Omega.{arith}
 use lib.ListN.{length, getD, List·getD-eq-default}
 use Rattle.base.specs.Tables.{tab}
 use Rattle.base.proofs.Numbers.{cell-lt, mul-le, lt-or-le}
-use Rattle.base.proofs.Tabled.{getD-tab}
-use Rattle.rules.specs.Bounds.{maxCells}
+use Rattle.base.proofs.Tabled.{getD-tab, length-tab}
+use Rattle.rules.specs.Bounds.{maxCells, maxColours}
 use Rattle.rules.specs.Grid.{cellAt, entryOf, colourOn}
 use Rattle.rules.specs.declared.Cell.{Cell}
-use Rattle.fit_pattern.specs.Ready.{Readable, CellOn}
-use Rattle.fit_pattern.specs.Packed.{shownBy, maskOf, Masked}
+use Rattle.fit_pattern.specs.Ready.{Readable, CellOn, Painted}
 
 pub record Inside (pieces : List ℕ) (cols : ℕ) (cell : Cell) : Type 0 where
   pub below : entryOf cols cell < length pieces
@@ -28,20 +27,23 @@ inside {pieces} {rows} {cols} board on =
     let few : rows * cols ≤ maxCells = mul-le (board .tall) (board .wide) in
     record { below = omega (arith, cell-lt (on .rowwise) (on .colwise), board .plane); few = omega (arith, board .plane) }
 
+pub read-is : (n : ℕ) (f : ℕ → ℕ) {cells : List ℕ} → cells ≡ tab n f → (i : ℕ) → i < n → getD cells i 0 ≡ f i
+read-is n f e i l = ap (λ (x : List ℕ). getD x i 0) e ∙ getD-tab n f i 0 l
+
 pub bare-past : (pieces : List ℕ) (n k : ℕ) → length pieces ≡ n → k ≡ n → 0 ≡ colourOn pieces k
 bare-past pieces n k e q =
     let p : length pieces ≤ k = omega arith in
     sym (ap (λ (x : ℕ). x - 1) (List·getD-eq-default pieces 0 p))
 
--- nine colours that were read are the window's
-pub read-is : (w : List ℕ) (f : ℕ → ℕ) → w ≡ tab 9 f → (i : ℕ) → i < 9 → shownBy w i ≡ f i
-read-is w f e i l = ap (λ (x : List ℕ). getD x i 0) e ∙ getD-tab 9 f i 0 l
+-- a cell holds a colour, or 0; so do the cells of a table of them
+pub colour-known : {pieces : List ℕ} {rows cols : ℕ} → Readable pieces rows cols → (k : ℕ) → colourOn pieces k ≤ maxColours
+colour-known {pieces} board k =
+    ⊎-elim (λ l. omega (arith, board .most k l)) (λ l. omega (arith, List·getD-eq-default pieces 0 l)) (lt-or-le k (length pieces))
 
--- nine colours with their masks, as they were read
-pub read-masked : {pieces : List ℕ} {rows cols : ℕ} {window mask : List ℕ} (place : ℕ → ℕ) → Readable pieces rows cols
-    → window ≡ tab 9 (λ i. colourOn pieces (place i)) → mask ≡ tab 9 (λ i. maskOf (shownBy window i)) → Masked window mask
-read-masked {pieces} {rows} {cols} {window} {mask} place board e m =
-    record { cells = record { low = λ i l. rw (read-is window _ e i l) (low (place i)) }; masks = read-is mask _ m }
+pub painted : {pieces : List ℕ} {rows cols : ℕ} {cells : List ℕ} (n : ℕ) (place : ℕ → ℕ) → Readable pieces rows cols
+    → cells ≡ tab n (λ i. colourOn pieces (place i)) → Painted cells
+painted {pieces} {cells = cells} n place board e =
+    record { known = λ i. ⊎-elim (λ l. rw (read-is n (λ k. colourOn pieces (place k)) e i l) (colour-known board (place i))) (λ l. rw (past i l) (omega arith)) (lt-or-le i n) }
   where
-    low : (k : ℕ) → colourOn pieces k < 256
-    low k = ⊎-elim (λ l. omega (arith, board .most k l)) (λ l. omega (arith, List·getD-eq-default pieces 0 l)) (lt-or-le k (length pieces))
+    past : (i : ℕ) → n ≤ i → getD cells i 0 ≡ 0
+    past i l = List·getD-eq-default cells 0 (rw (ap length e ∙ length-tab n (λ i. colourOn pieces (place i))) l)

@@ -1,2 +1,3 @@
 pub mod Ready
+pub mod Patch
 pub mod Packed

@@ -1,15 +1,9 @@
--- What a window that was read shows, and cells read as one number: each is a byte, the first the lowest.
-use Prim.Native.Nat.{ℕ, zero, suc, _+_, _*_, _^_, _<_}
-use mathlib.Core.Path.{_≡_}
+-- Cells read as one number: each is a byte, the first the lowest.
+use Prim.Native.Nat.{ℕ, zero, suc, _+_, _*_, _^_}
 use mathlib.Core.List.{List}
 use lib.Dec.{eqb}
 use lib.ListN.{getD}
 use Rattle.base.specs.Counting.{pick}
-use Rattle.rules.specs.Bounds.{tileCells}
-
--- the colour at each place of a window that was read
-abbrev pub shownBy : List ℕ → ℕ → ℕ
-shownBy window i = getD window i 0
 
 -- the cells of a list from one on
 abbrev pub cellsFrom : List ℕ → ℕ → ℕ → ℕ
@@ -22,12 +16,3 @@ packed (suc n) f = f n * 2 ^ (8 * n) + packed n f
 -- what is left of a tile's cell where a window shows this colour: all of it, or nothing where the window is bare
 abbrev pub maskOf : ℕ → ℕ
 maskOf colour = pick (eqb colour 0) 0 255
-
--- nine cells, each a byte
-pub record Cells (window : List ℕ) : Type 0 where
-  pub low : (i : ℕ) → i < tileCells → shownBy window i < 256
-
--- a window's colours with their masks
-pub record Masked (window mask : List ℕ) : Type 0 where
-  pub cells : Cells window
-  pub masks : (i : ℕ) → i < tileCells → shownBy mask i ≡ maskOf (shownBy window i)

@@ -17,3 +17,7 @@ pub record Readable (pieces : List ℕ) (rows cols : ℕ) : Type 0 where
 pub record CellOn (rows cols row col : ℕ) : Type 0 where
   pub rowwise : row < rows
   pub colwise : col < cols
+
+-- cells that were read: each holds a colour, or 0
+pub record Painted (cells : List ℕ) : Type 0 where
+  pub known : (i : ℕ) → getD cells i 0 ≤ maxColours

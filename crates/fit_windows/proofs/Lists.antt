@@ -2,32 +2,34 @@
 --     without-this    a set less what it has in common with one colour
 --     past-misfit, past-fitting    one tile tried
 --     missing-first, missing-turn, missing-end, missing-none    a walk of the tiles until no colour is missing
---     skip-left, kept-left    a window that is skipped, and one that is kept, on any grid
+--     skip-above, skip-beside, kept-left    a window that is skipped, and one that is kept
+--     in-patch    the window says of a colour in the patch what it says on the board
 --     left-first, left-turn, left-none    the nine windows; once no colour is left, none is listed
 -- Assumes nothing.
-use Prim.Native.Nat.{ℕ, zero, suc, _+_, _-_, _*_, _^_, _<_, _≤_}
+use Prim.Native.Nat.{ℕ, zero, suc, _+_, _-_, _*_, _/_, _%_, _^_, _<_, _≤_}
 use mathlib.Core.Path.{_≡_, refl, sym, _∙_, ap}
 use mathlib.Core.Bool.{Bool, true, false, not, _&&_, _||_}
 use mathlib.Core.List.{List}
 use native.Mathlib.Nat.{zero-div, lt-of-lt-of-le}
 use native.Mathlib.Omega.{arith}
-use borrow.Author.Tests.{not-false}
-use lib.Dec.{eqb}
+use borrow.Author.Tests.{not-false, le-leb, lt-leb, leb-true}
+use lib.Dec.{eqb, leb}
 use lib.ListN.{getD}
 use lib.Pow.{pow-mono}
 use Rattle.base.specs.Counting.{some}
 use Rattle.base.specs.Tables.{tab}
-use Rattle.base.proofs.Bools.{never, not-is-true, by-test}
+use Rattle.base.proofs.Bools.{never, not-is-true, by-test, and-left, and-right, and-no-left, and-no-right}
 use Rattle.base.proofs.Counted.{every-more, every-at, every-is, every-none, some-none, some-more, some-at, some-is}
 use Rattle.rules.specs.Bounds.{maxColours}
 use Rattle.rules.specs.Tests.{tilesIn}
 use Rattle.rules.specs.Sets.{has, bitsOf}
-use Rattle.rules.specs.Grid.{Shape}
-use Rattle.rules.specs.Fit.{pattern, fitsTile, serves, hasFitting, allows, windowOrder, leftAfter, lists}
+use Rattle.rules.specs.Grid.{Shape, cellAt, entryOf, flat}
+use Rattle.rules.specs.Fit.{fitsTile, serves, hasFitting, allows, windowOrder, leftAfter, lists}
 use Rattle.bitset_colours.proofs.Digits.{bits-lt, bits-ext, bits-has, none-is}
-use Rattle.fit_pattern.specs.Packed.{shownBy}
-use Rattle.fit_pattern.proofs.Windows.{read-is}
-use Rattle.fit_windows.specs.Kept.{Keeps}
+use Rattle.fit_pattern.specs.Patch.{patchRound, standing}
+use Rattle.fit_pattern.proofs.Flat.{kept-is}
+use Rattle.fit_pattern.proofs.Patch.{stands}
+use Rattle.fit_windows.specs.Kept.{Keeps, allowsIn}
 use Rattle.fit_windows.proofs.Kept.{none-has, keeps-all, keeps-ext, keeps-both, keeps-rest, keeps-none}
 use Rattle.rules.proofs.Fitting.{has-ext}
 
@@ -98,20 +100,38 @@ module _ (tiles : List ℕ) (shown : ℕ → ℕ) (q : ℕ) where
             let w = some-at (serves tiles shown q t) n s in
             some-is (serves tiles shown q t) (tilesIn tiles) (w .0) (omega (arith, w .1)) (w .2)
 
--- ---- the windows of a cell, on any grid
+-- ---- the windows of a cell, in the patch round it
 
-module _ (g : Shape) (tiles pieces : List ℕ) (k : ℕ) where
-  -- a window that is skipped allows every colour
-  pub skip-left : {left q : ℕ} → g .kept k q ≡ false → Keeps left (λ t. allows g tiles pieces k t q) left
-  unfolding allows
-  skip-left e = keeps-all (λ t. rw e)
+module _ (tiles patch : List ℕ) (row col : ℕ) where
+  -- a window that starts above or left of the grid is skipped, and allows every colour
+  pub skip-above : {left : ℕ} (q : ℕ) → row < q / 3 → Keeps left (λ t. allowsIn tiles patch row col t q) left
+  skip-above q p = keeps-all (λ t. rw (and-no-left (leb (q / 3) row) (leb (q % 3) col) (lt-leb (q / 3) row p)))
 
-  -- one that is kept, starts at s and was read allows what it has a fitting tile for
-  pub kept-left : {left x s : ℕ} (q : ℕ) (w : List ℕ) → g .kept k q ≡ true → g .start k q ≡ s → w ≡ tab 9 (pattern g pieces s)
-      → Keeps left (hasFitting tiles (shownBy w) q) x → Keeps left (λ t. allows g tiles pieces k t q) x
-  unfolding allows
-  kept-left {s = s} q w e p r h =
-      keeps-ext h (λ t a b. has-ext tiles (shownBy w) (pattern g pieces s) (read-is w _ r) q t ∙ sym (rw (e, p)))
+  pub skip-beside : {left : ℕ} (q : ℕ) → col < q % 3 → Keeps left (λ t. allowsIn tiles patch row col t q) left
+  skip-beside q p = keeps-all (λ t. rw (and-no-right (leb (q / 3) row) (leb (q % 3) col) (lt-leb (q % 3) col p)))
+
+  -- any other allows what it has a fitting tile for
+  pub kept-left : {left x : ℕ} (q : ℕ) → q / 3 ≤ row → q % 3 ≤ col → Keeps left (hasFitting tiles (standing patch q) q) x
+      → Keeps left (λ t. allowsIn tiles patch row col t q) x
+  kept-left q p r h = keeps-ext h (λ t a b. sym (rw (le-leb (q / 3) row p, le-leb (q % 3) col r)))
+
+-- what the patch that was read says of a window is what the board says
+module _ (rows cols : ℕ) (tiles pieces patch : List ℕ) (row col : ℕ) (colwise : col < cols) (read : patch ≡ tab 25 (patchRound rows cols pieces (cellAt row col)))
+  where
+    pub in-patch : (t q : ℕ) → q < 9 → allowsIn tiles patch row col t q ≡ allows (flat rows cols) tiles pieces (entryOf cols (cellAt row col)) t q
+    unfolding allows
+    in-patch t q l =
+        ap (λ (b : Bool). not b || hasFitting tiles (standing patch q) q t) (sym (kept-is rows cols (cellAt row col) q colwise))
+        ∙ same-kept (flat rows cols .kept (entryOf cols (cellAt row col)) q) (λ e.
+        let both = sym (kept-is rows cols (cellAt row col) q colwise) ∙ e in
+        has-ext tiles (standing patch q) _
+        (stands rows cols pieces (cellAt row col) q l (leb-true (q / 3) row (and-left _ _ both)) (leb-true (q % 3) col (and-right (leb (q / 3) row) _ both)) colwise
+        patch read)
+        q t)
+      where
+        same-kept : (b : Bool) {x y : Bool} → (b ≡ true → x ≡ y) → (not b || x) ≡ (not b || y)
+        same-kept true h = h refl
+        same-kept false h = refl
 
 -- the nine windows
 module _ (g : Shape) (tiles pieces : List ℕ) (k count : ℕ) where

@@ -12,17 +12,17 @@ ghost use Rattle.rules.specs.Sets.{bitsOf};
 ghost use Rattle.rules.specs.Fit.{pattern, fitCount, serves, hasFitting, allows, windowOrder, lists, foundAt};
 ghost use Rattle.rules.specs.Promises.{before};
 ghost use Rattle.rules.specs.declared.Listing.the-variants.{Colours};
-ghost use Rattle.fit_pattern.specs.Packed.{shownBy, Masked};
-ghost use Rattle.fit_pattern.specs.Ready.{Readable, CellOn};
+ghost use Rattle.fit_pattern.specs.Patch.{shownIn, standing};
+ghost use Rattle.fit_pattern.specs.Ready.{CellOn, Painted};
 ghost use Rattle.fit_windows.specs.Ready.{Countable, Ready, Coloured};
-ghost use Rattle.fit_windows.specs.Kept.{Keeps};
+ghost use Rattle.fit_windows.specs.Kept.{Keeps, allowsIn};
 use rules::Cell;
 use rules::Listing;
 use rules::TileBitset;
 
 // The place that the cell has in each of its nine windows, in the text's order: the window centred on the cell, then those centred
 // up, left, right and down of it, then on the corners row by row.
-const WINDOW_ORDER: [usize; 9] = [4, 7, 5, 3, 1, 8, 6, 2, 0];
+const WINDOW_ORDER: [u8; 9] = [4, 7, 5, 3, 1, 8, 6, 2, 0];
 
 fn one_if(test: bool) -> u32
     ensures { λ r. ⌜ r ≡ pick test 1 0 ⌝ }
@@ -31,19 +31,19 @@ fn one_if(test: bool) -> u32
 }
 
 // How many tiles fit the window: all of them where it is bare.
-fn fit_count(tiles: &[u8], window: &[u8; rules::TILE_CELLS], mask: &[u8; rules::TILE_CELLS]) -> u32
+fn fit_count(tiles: &[u8], window: &[u8; rules::TILE_CELLS]) -> u32
     requires { ⌜ tilesIn (now tiles) ≤ maxTiles ⌝ }
-    requires { ⌜ Masked (now window) (now mask) ⌝ }
-    ensures { λ r. ⌜ r ≡ fitCount (before tiles) (shownBy (before window)) ⌝ }
+    requires { ⌜ Painted (now window) ⌝ }
+    ensures { λ r. ⌜ r ≡ fitCount (before tiles) (shownIn (before window) 3 0) ⌝ }
 {
     let last = tiles.len() / rules::TILE_CELLS;
-    if fit_pattern::is_bare(window) {
+    if fit_pattern::is_bare(window, 3, 0) {
         return last as u32;
     }
     let mut count = 0;
     let mut n = 0;
     while n < last {
-        count += one_if(fit_pattern::tile_fits(tiles, n, window, mask));
+        count += one_if(fit_pattern::tile_fits(tiles, n, window, 3, 0));
         n += 1;
     }
     count
@@ -63,8 +63,7 @@ pub fn fit_count_at(
     ensures { λ r. ⌜ r ≡ fitCount (before tiles) (pattern (flat rows cols) (before pieces) (entryOf cols (cellAt row col))) ⌝ }
 {
     let window = fit_pattern::window_at(pieces, rows, cols, row, col);
-    let mask = fit_pattern::masks_for(&window);
-    fit_count(tiles, &window, &mask)
+    fit_count(tiles, &window)
 }
 
 // The set without colour t.
@@ -76,40 +75,35 @@ fn without_colour(bits: u32, t: u32) -> u32
     bits - there
 }
 
-// What is missing still once tile n was tried: a tile that fits the window serves the colour that it has at place q.
+// What is missing still once tile n was tried on the window that has the cell at place q, where it stands in the patch: a tile that fits
+// it serves the colour that it has there.
 fn missing_past(
     missing: u32,
     tiles: &[u8],
     n: usize,
-    window: &[u8; rules::TILE_CELLS],
-    mask: &[u8; rules::TILE_CELLS],
+    patch: &[u8; fit_pattern::PATCH_CELLS],
     q: usize,
 ) -> u32
     requires { ⌜ n * 9 + 9 ≤ length (now tiles) ⌝ }
     requires { ⌜ Coloured (now tiles) ⌝ }
-    requires { ⌜ Masked (now window) (now mask) ⌝ }
+    requires { ⌜ Painted (now patch) ⌝ }
     requires { ⌜ q < 9 ⌝ }
-    ensures { λ r. ⌜ Keeps missing (λ t. not (serves (before tiles) (shownBy (before window)) q t n)) r ⌝ }
+    ensures { λ r. ⌜ Keeps missing (λ t. not (serves (before tiles) (standing (before patch) q) q t n)) r ⌝ }
 {
-    if !fit_pattern::tile_fits(tiles, n, window, mask) {
+    let at = fit_pattern::window_in(q);
+    if !fit_pattern::tile_fits(tiles, n, patch, fit_pattern::PATCH_SIDE, at) {
         return missing;
     }
     without_colour(missing, tiles[n * rules::TILE_CELLS + q] as u32)
 }
 
 // Those of the colours left that a fitting tile has at place q. The tiles are walked until no colour is missing.
-fn window_colours(
-    left: u32,
-    tiles: &[u8],
-    window: &[u8; rules::TILE_CELLS],
-    mask: &[u8; rules::TILE_CELLS],
-    q: usize,
-) -> u32
+fn window_colours(left: u32, tiles: &[u8], patch: &[u8; fit_pattern::PATCH_CELLS], q: usize) -> u32
     requires { ⌜ left < 2 ^ maxColours ⌝ }
     requires { ⌜ Coloured (now tiles) ⌝ }
-    requires { ⌜ Masked (now window) (now mask) ⌝ }
+    requires { ⌜ Painted (now patch) ⌝ }
     requires { ⌜ q < 9 ⌝ }
-    ensures { λ r. ⌜ Keeps left (hasFitting (before tiles) (shownBy (before window)) q) r ⌝ }
+    ensures { λ r. ⌜ Keeps left (hasFitting (before tiles) (standing (before patch) q) q) r ⌝ }
 {
     let end = tiles.len() / rules::TILE_CELLS;
     let mut missing = left;
@@ -118,29 +112,26 @@ fn window_colours(
         if missing == 0 {
             return left;
         }
-        missing = missing_past(missing, tiles, n, window, mask, q);
+        missing = missing_past(missing, tiles, n, patch, q);
         n += 1;
     }
     left - missing
 }
 
-// Those of the colours left that the window which has the cell at place q allows.
+// Those of the colours left that the window which has the cell (row, col) at place q allows.
 fn narrowed(
     left: u32,
-    pieces: &[u32],
-    rows: usize,
-    cols: usize,
+    patch: &[u8; fit_pattern::PATCH_CELLS],
     tiles: &[u8],
     row: usize,
     col: usize,
     q: usize,
 ) -> u32
     requires { ⌜ left < 2 ^ maxColours ⌝ }
-    requires { ⌜ Readable (now pieces) rows cols ⌝ }
-    requires { ⌜ CellOn rows cols row col ⌝ }
+    requires { ⌜ Painted (now patch) ⌝ }
     requires { ⌜ Coloured (now tiles) ⌝ }
     requires { ⌜ q < 9 ⌝ }
-    ensures { λ r. ⌜ Keeps left (λ t. allows (flat rows cols) (before tiles) (before pieces) (entryOf cols (cellAt row col)) t q) r ⌝ }
+    ensures { λ r. ⌜ Keeps left (λ t. allowsIn (before tiles) (before patch) row col t q) r ⌝ }
 {
     if row < q / 3 {
         return left;
@@ -148,19 +139,18 @@ fn narrowed(
     if col < q % 3 {
         return left;
     }
-    let window = fit_pattern::window_at(pieces, rows, cols, row - q / 3, col - q % 3);
-    let mask = fit_pattern::masks_for(&window);
-    window_colours(left, tiles, &window, &mask, q)
+    window_colours(left, tiles, patch, q)
 }
 
 fn window_place(i: usize) -> usize
     requires { ⌜ i < 9 ⌝ }
     ensures { λ r. ⌜ r ≡ getD windowOrder i 0 ⌝ }
 {
-    WINDOW_ORDER[i]
+    WINDOW_ORDER[i] as usize
 }
 
-// The colours listed at (row, col), as bits. The windows are left as soon as no colour is left.
+// The colours listed at (row, col), as bits. The cells round it are read once, and each window is tested in that patch. The windows are
+// left as soon as no colour is left.
 fn viable_colours(
     pieces: &[u32],
     rows: usize,
@@ -174,13 +164,14 @@ fn viable_colours(
     requires { ⌜ CellOn rows cols row col ⌝ }
     ensures { λ r. ⌜ r ≡ bitsOf count (lists (flat rows cols) (before tiles) (before pieces) (entryOf cols (cellAt row col))) ⌝ }
 {
+    let patch = fit_pattern::patch_at(pieces, rows, cols, row, col);
     let mut left = bitset_colours::all_colours(count);
     let mut i = 0;
     while i < 9 {
         if left == 0 {
             return 0;
         }
-        left = narrowed(left, pieces, rows, cols, tiles, row, col, window_place(i));
+        left = narrowed(left, &patch, tiles, row, col, window_place(i));
         i += 1;
     }
     left

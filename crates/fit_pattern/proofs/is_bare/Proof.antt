@@ -1,7 +1,9 @@
 -- `fit_pattern::is_bare` meets its contract: eight cells read as one number, and the ninth, are 0. Assumes nothing.
-use mathlib.Core.Path.{_≡_, _∙_}
-use Rattle.fit_pattern.specs.Packed.{shownBy, packed}
-use Rattle.fit_pattern.proofs.Packed.{from-first, bare-cells}
+use Prim.Native.Nat.{_<_}
+use native.Mathlib.Omega.{arith}
+use Rattle.fit_pattern.specs.Patch.{shownIn}
+use Rattle.fit_pattern.proofs.Packed.{bare-cells}
+use Rattle.fit_pattern.proofs.Patch.{shown-each, last-is}
 use borrow.Author.Needs.{needs}
 use Rattle.fit_pattern.proofs.is_bare.Statement.{statement}
 use Rattle.fit_pattern.proofs.is_bare.Tie as tie
@@ -9,13 +11,25 @@ use Rattle.fit_pattern.proofs.is_bare.Tie as tie
 eight-requires : tie.Need-eight-requires
 eight-requires c κs = search needs
 
-element-copy-out-last : tie.Need-element-copy-out-last
-element-copy-out-last c = search needs
+add-last : tie.Need-add-last
+add-last c = search needs
+
+add-last-2 : tie.Need-add-last-2
+add-last-2 c = search needs
+
+add-last-3 : tie.Need-add-last-3
+add-last-3 c = search needs
+
+shared-slice-read-last : tie.Need-shared-slice-read-last
+shared-slice-read-last c = search needs
 
 returns : tie.Need-returns
-returns c = let a = c .before .before .before .args in
-    let p : c .before .eight .result ≡ packed 8 (shownBy (a .window .now)) = c .before .eight .ensures ∙ from-first 8 (a .window .now) in
-    rw p (bare-cells (a .window .now) (c .before .before .before .pre))
+returns c =
+    let a = c .before .before .before .args in
+    rw (c .before .eight .ensures, last-is (a .cells .now) (a .width) (a .at)) (bare-cells (shownIn (a .cells .now) (a .width) (a .at))
+    (shown-each (a .cells .now) (a .width) (a .at) (λ x. x < 256) (λ i. omega (arith, c .shared-slice-known2 .given i))))
 
 pub is-bare-spec : {M : Type 1} → statement M
-is-bare-spec = tie.close (tie.spec eight-requires element-copy-out-last returns)
+is-bare-spec =
+    tie.close
+    (tie.spec eight-requires add-last add-last-2 add-last-3 shared-slice-read-last returns)

@@ -1,58 +1,45 @@
--- `fit_pattern::masks_for` meets its contract. The loop's invariant: the places passed hold their masks. Assumes nothing.
-use Prim.Native.Nat.{_-_, _≤_}
-use mathlib.Core.Path.{_≡_, _∙_}
-use Rattle.base.proofs.Swept.{swept, swept-none, swept-turn, swept-all}
-use Rattle.fit_pattern.specs.Packed.{shownBy, maskOf}
+-- `fit_pattern::masks_for` meets its contract: the masks of eight colours at once. Assumes nothing.
+use Prim.Native.Nat.{ℕ, _+_, _*_, _/_, _^_, _<_, _≤_}
+use mathlib.Core.Path.{_≡_}
+use native.Mathlib.Omega.{arith}
+use lib.Bits.{bitAnd}
+use Rattle.fit_pattern.specs.Patch.{shownIn}
+use Rattle.fit_pattern.specs.Packed.{packed, maskOf}
+use Rattle.fit_pattern.proofs.Packed.{packed-add, packed-lt, masks-is, masks-lt}
+use Rattle.fit_pattern.proofs.Patch.{shown-each}
 use borrow.Author.Needs.{needs}
 use Rattle.fit_pattern.proofs.masks_for.Statement.{statement}
 use Rattle.fit_pattern.proofs.masks_for.Tie as tie
 
-abbrev Inv-loop : tie.InvT-loop
-Inv-loop window masks₀ k₀ masks k = (k ≤ 9) × (masks ≡ swept 0 k (λ i. maskOf (shownBy window i)) masks₀)
+eight-requires : tie.Need-eight-requires
+eight-requires c κs = search needs
 
-abbrev μ-loop : tie.MeasureT-loop
-μ-loop window masks₀ k₀ masks k = 9 - k
+-- a colour leaves room for 127 in its byte
+module _ (c : tie.After-eight) where
+  shown : ℕ → ℕ
+  shown = shownIn (c .before .before .args .cells .now) (c .before .before .args .width) (c .before .before .args .at)
 
-loop-holds : tie.Need-loop-holds Inv-loop μ-loop
-loop-holds c = (search needs, swept-none 0 _ _)
+  small : (i : ℕ) → shown i ≤ 128
+  unfolding shown
+  small = shown-each _ _ _ (λ x. x ≤ 128) (λ i. omega (arith, c .before .before .pre .1 .known i))
 
-element-copy-out-mask-for : tie.Need-element-copy-out-mask-for Inv-loop μ-loop
-element-copy-out-mask-for c = search needs
+  room : c .eight .result + 0x7f7f_7f7f_7f7f_7f7f < 2 ^ 64
+  unfolding shown packed
+  room = rw (c .eight .ensures) (rw (packed-add 8 shown (λ i. 127)) (packed-lt 8 (λ i. shown i + 127) (λ i l. omega (arith, small i))))
 
-mask-for-requires : tie.Need-mask-for-requires Inv-loop μ-loop
-mask-for-requires c κs = search needs
+  masks : bitAnd (c .eight .result + 0x7f7f_7f7f_7f7f_7f7f) 0x8080_8080_8080_8080 / 0x80 * 0xff ≡ packed 8 (λ i. maskOf (shown i))
+  unfolding shown packed
+  masks = rw (c .eight .ensures) (masks-is 8 shown (λ i l. small i))
 
-array-write-masks : tie.Need-array-write-masks Inv-loop μ-loop
-array-write-masks c = search needs
+add-laid : tie.Need-add-laid
+add-laid c = record { fits = room c }
 
-add-k : tie.Need-add-k Inv-loop μ-loop
-add-k c = search needs
+mul-result : tie.Need-mul-result
+mul-result c = record { fits = rw (masks c) (masks-lt 8 (shown c)) }
 
-loop-less : tie.Need-loop-less Inv-loop μ-loop
-loop-less c = search needs
-
-loop-again : tie.Need-loop-again Inv-loop μ-loop
-loop-again c =
-    let a = c .before .before .before .before .args in
-    let l = c .before .before .before .loop in (
-      search needs,
-      swept-turn 0 (l .masks) _ (l .k) (λ i. maskOf (shownBy (a .window .now) i)) (c .mask-for .result) (search needs) (l .inv .1) (c .mask-for .ensures),
-    )
-
-returns : tie.Need-returns Inv-loop μ-loop
-returns c = c .before .loop .inv .1 ∙ swept-all 0 (c .before .loop .k) _ _ (c .loop-test .left)
+returns : tie.Need-returns
+unfolding shown
+returns c = masks c
 
 pub masks-for-spec : {M : Type 1} → statement M
-masks-for-spec =
-    tie.close
-    (tie.spec
-    Inv-loop
-    μ-loop
-    loop-holds
-    element-copy-out-mask-for
-    mask-for-requires
-    array-write-masks
-    add-k
-    loop-less
-    loop-again
-    returns)
+masks-for-spec = tie.close (tie.spec eight-requires add-laid mul-result returns)

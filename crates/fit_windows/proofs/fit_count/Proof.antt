@@ -7,7 +7,7 @@ use Rattle.base.specs.Counting.{tally}
 use Rattle.base.proofs.Counted.{tally-le}
 use Rattle.rules.specs.Tests.{tilesIn}
 use Rattle.rules.specs.Fit.{fitsTile, fitCount}
-use Rattle.fit_pattern.specs.Packed.{shownBy}
+use Rattle.fit_pattern.specs.Patch.{shownIn}
 use Rattle.base.proofs.Counted.{tally-turn, tally-done}
 use Rattle.rules.proofs.Fitting.{bare-fits}
 use borrow.Author.Needs.{needs}
@@ -15,10 +15,10 @@ use Rattle.fit_windows.proofs.fit_count.Statement.{statement}
 use Rattle.fit_windows.proofs.fit_count.Tie as tie
 
 abbrev Inv-loop : tie.InvT-loop
-Inv-loop tiles window mask last count₀ n₀ count n = (n ≤ tilesIn tiles) × (count ≡ tally n (fitsTile tiles (shownBy window)))
+Inv-loop tiles window last count₀ n₀ count n = (n ≤ tilesIn tiles) × (count ≡ tally n (fitsTile tiles (shownIn window 3 0)))
 
 abbrev μ-loop : tie.MeasureT-loop
-μ-loop tiles window mask last count₀ n₀ count n = tilesIn tiles - n
+μ-loop tiles window last count₀ n₀ count n = tilesIn tiles - n
 
 is-bare-requires : tie.Need-is-bare-requires Inv-loop μ-loop
 is-bare-requires c κs = search needs
@@ -40,9 +40,9 @@ one-if-requires : tie.Need-one-if-requires Inv-loop μ-loop
 one-if-requires c κs = search needs
 
 add-count : tie.Need-add-count Inv-loop μ-loop
-add-count c = let a = c .before .before .before .before .before .before .before .args in
-    let l = c .before .before .before .loop in
-    let f : ℕ → Bool = fitsTile (a .tiles .now) (shownBy (a .window .now)) in
+add-count c = let a = c .before .before .before .before .before .before .before .before .before .args in
+    let l = c .before .before .before .before .loop in
+    let f : ℕ → Bool = fitsTile (a .tiles .now) (shownIn (a .window .now) 3 0) in
     let t : l .count + c .one-if .result ≡ tally (l .n + 1) f = tally-turn f (l .inv .1) (c .before .tile-fits .ensures) (c .one-if .ensures) in
     record { fits = omega (arith, tally-le f (l .n + 1)) }
 
@@ -53,9 +53,9 @@ loop-less : tie.Need-loop-less Inv-loop μ-loop
 loop-less c = search needs
 
 loop-again : tie.Need-loop-again Inv-loop μ-loop
-loop-again c = let a = c .before .before .before .before .before .before .before .args in
-    let l = c .before .before .before .loop in
-    (search needs, tally-turn (fitsTile (a .tiles .now) (shownBy (a .window .now))) (l .inv .1) (c .before .tile-fits .ensures) (c .one-if .ensures))
+loop-again c = let a = c .before .before .before .before .before .before .before .before .before .args in
+    let l = c .before .before .before .before .loop in
+    (search needs, tally-turn (fitsTile (a .tiles .now) (shownIn (a .window .now) 3 0)) (l .inv .1) (c .before .tile-fits .ensures) (c .one-if .ensures))
 
 returns-2 : tie.Need-returns-2 Inv-loop μ-loop
 unfolding fitCount

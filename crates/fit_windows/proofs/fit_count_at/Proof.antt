@@ -1,6 +1,7 @@
 -- `fit_windows::fit_count_at` meets its contract: the window is read, and its tiles counted. Assumes nothing.
 use mathlib.Core.Path.{_∙_}
-use Rattle.fit_pattern.proofs.Windows.{read-is, read-masked}
+use Rattle.fit_pattern.proofs.Windows.{painted}
+use Rattle.fit_pattern.proofs.Patch.{whole-is}
 use Rattle.rules.proofs.Fitting.{count-ext}
 use borrow.Author.Needs.{needs}
 use Rattle.fit_windows.proofs.fit_count_at.Statement.{statement}
@@ -9,17 +10,12 @@ use Rattle.fit_windows.proofs.fit_count_at.Tie as tie
 window-at-requires : tie.Need-window-at-requires
 window-at-requires c κs = search needs
 
-masks-for-requires : tie.Need-masks-for-requires
-masks-for-requires c κs = search needs
-
 fit-count-requires : tie.Need-fit-count-requires
 fit-count-requires c κs =
-    let p = c .before .before .before .before .before .before .before .pre in
-    (search needs, read-masked _ (p .0 .board) (c .before .before .before .before .window-at .ensures) (c .before .before .masks-for .ensures))
+    (search needs, painted 9 _ (c .before .before .before .before .pre .0 .board) (c .before .window-at .ensures))
 
 returns : tie.Need-returns
-returns c = c .fit-count .ensures ∙ count-ext _ _ _ (read-is _ _ (c .before .before .before .before .before .window-at .ensures))
+returns c = c .fit-count .ensures ∙ count-ext _ _ _ (whole-is _ (c .before .before .window-at .ensures))
 
 pub fit-count-at-spec : {M : Type 1} → statement M
-fit-count-at-spec =
-    tie.close (tie.spec window-at-requires masks-for-requires fit-count-requires returns)
+fit-count-at-spec = tie.close (tie.spec window-at-requires fit-count-requires returns)
