@@ -38,7 +38,8 @@ const USE: &str = "differential: the text and the port on the same inputs
   --mutant NAME  disturbs the port's side of one comparison; a difference must show
   --mutants      each mutant in turn; fails unless every one is seen
   --record DIR   writes the fixed list, a file for each of its steps, to a folder that is there
-  --speed        times both sides, as Markdown; --colours N only those cases (4, 12, 30)";
+  --speed        times both sides, as Markdown; --colours N only those cases (4, 12, 30)
+  --port-times   times the port alone, a line for each case of --speed, for oracle/side-by-side";
 
 struct Options {
     plan: Plan,
@@ -48,6 +49,7 @@ struct Options {
     list: bool,
     record: Option<PathBuf>,
     speed: bool,
+    port_times: bool,
     colours: Option<u32>,
 }
 
@@ -62,6 +64,7 @@ fn options() -> Result<Options, String> {
         list: false,
         record: None,
         speed: false,
+        port_times: false,
         colours: None,
     };
     let mut words = std::env::args().skip(1);
@@ -80,6 +83,7 @@ fn options() -> Result<Options, String> {
             "--list" => options.list = true,
             "--record" => options.record = Some(value()?.into()),
             "--speed" => options.speed = true,
+            "--port-times" => options.port_times = true,
             "--colours" => options.colours = Some(number(value()?)? as u32),
             _ => return Err(USE.into()),
         }
@@ -96,6 +100,10 @@ fn main() -> ExitCode {
             return ExitCode::from(2);
         }
     };
+    if options.port_times {
+        speed::port_times(options.plan.seed, options.colours);
+        return ExitCode::SUCCESS;
+    }
     println!("{}; text {}", if cfg!(feature = "port") { "the port" } else { MODEL }, oracle::TEXT_SUM);
     if options.speed {
         speed::report(options.plan.seed, options.colours);

@@ -422,8 +422,51 @@ fn against(port: Option<f64>, text: f64) -> String {
     port.map_or_else(|| "| - | -".into(), |port| format!("| {} | {:.2}", micros(port), port / text))
 }
 
+fn pictures(seed: u64, colours: Option<u32>) -> Vec<Picture> {
+    COLOURS
+        .into_iter()
+        .filter(|&count| colours.is_none_or(|only| only == count))
+        .flat_map(|count| PATCHES.map(|patch| (count, patch)))
+        .map(|(count, patch)| Picture::new(count, patch, &mut Random::new(&[seed, u64::from(count), patch.2 as u64])))
+        .collect()
+}
+
+/// A picture laid in part: its pieces, their weights and its bare cells in the order in which calls go to them.
+fn part(picture: &Picture, seed: u64, laid: usize) -> (Vec<u32>, Vec<u32>, Vec<usize>) {
+    let mut random = Random::new(&[seed, u64::from(picture.colours), laid as u64]);
+    let pieces = picture.laid(laid, &mut random);
+    let weights = inputs::weights_of(&pieces, SIDE, SIDE);
+    let cells = shuffled(CELLS, &mut random).into_iter().filter(|&cell| pieces[cell] == 1).collect();
+    (pieces, weights, cells)
+}
+
+/// The order in which a job's calls go to the cells.
+fn job_order(picture: &Picture, seed: u64) -> Vec<usize> {
+    shuffled(CELLS, &mut Random::new(&[seed, u64::from(picture.colours), 0]))
+}
+
+const JOB_PARTS: [&str; 4] = ["set-up", "1,000 lays", "1,000 listings", "1 scan"];
+
+/// The port alone, a line for each case: colours, tiles, part laid, step and nanoseconds, with tabs between. Two states of the
+/// port are compared by their lines (oracle/side-by-side).
+pub fn port_times(seed: u64, colours: Option<u32>) {
+    for picture in &pictures(seed, colours) {
+        let line = |laid: &str, step: &str, seconds: f64| {
+            println!("{}\t{}\t{laid}\t{step}\t{:.0}", picture.colours, picture.tiles.len() / 9, seconds * 1e9);
+        };
+        line("-", "extraction", port_side::extraction(picture));
+        for laid in LAID {
+            let (pieces, weights, cells) = part(picture, seed, laid);
+            let times = port_side::calls(picture, &pieces, &weights, &cells);
+            let steps = [("listing", times.listing), ("lay", times.lay), ("lift", times.lift), ("scan", times.scan)];
+            steps.into_iter().for_each(|(step, seconds)| line(&format!("{laid}%"), step, seconds));
+        }
+        let times = port_side::job(picture, &job_order(picture, seed));
+        JOB_PARTS.into_iter().zip(times).for_each(|(step, seconds)| line("job", step, seconds));
+    }
+}
+
 pub fn report(seed: u64, colours: Option<u32>) {
-    let cases: Vec<u32> = COLOURS.into_iter().filter(|&count| colours.is_none_or(|only| only == count)).collect();
     println!("seed {seed}; times in microseconds; {}", if PORT { "with the port" } else { "the oracle alone" });
     println!();
     println!("## A call, board 64x64");
@@ -440,15 +483,11 @@ pub fn report(seed: u64, colours: Option<u32>) {
         "| colours | tiles | laid | step | text, no cache | text, new cache | text, kept cache | port | port / text |"
     );
     println!("|---:|---:|---:|---|---:|---:|---:|---:|---:|");
-    let pictures: Vec<Picture> = cases
-        .iter()
-        .flat_map(|&count| PATCHES.map(|patch| (count, patch)))
-        .map(|(count, patch)| Picture::new(count, patch, &mut Random::new(&[seed, u64::from(count), patch.2 as u64])))
-        .collect();
+    let pictures = pictures(seed, colours);
     for picture in &pictures {
         extraction(picture);
         for laid in LAID {
-            calls(picture, laid, &mut Random::new(&[seed, u64::from(picture.colours), laid as u64]));
+            calls(picture, seed, laid);
         }
     }
     println!();
@@ -462,7 +501,7 @@ pub fn report(seed: u64, colours: Option<u32>) {
     println!("| colours | tiles | part | text, no cache | text, kept cache | port | port / text |");
     println!("|---:|---:|---|---:|---:|---:|---:|");
     for picture in &pictures {
-        job(picture, &mut Random::new(&[seed, u64::from(picture.colours), 0]));
+        job(picture, seed);
     }
 }
 
@@ -477,10 +516,8 @@ fn extraction(picture: &Picture) {
     );
 }
 
-fn calls(picture: &Picture, laid: usize, random: &mut Random) {
-    let pieces = picture.laid(laid, random);
-    let weights = inputs::weights_of(&pieces, SIDE, SIDE);
-    let cells: Vec<usize> = shuffled(CELLS, random).into_iter().filter(|&cell| pieces[cell] == 1).collect();
+fn calls(picture: &Picture, seed: u64, laid: usize) {
+    let (pieces, weights, cells) = part(picture, seed, laid);
     let mut plain = bare::Case::new(picture, &pieces, &weights, &cells);
     let mut cached = cached::Case::new(picture, &pieces, &weights, &cells);
     let port = PORT.then(|| port_side::calls(picture, &pieces, &weights, &cells));
@@ -504,14 +541,14 @@ fn calls(picture: &Picture, laid: usize, random: &mut Random) {
     }
 }
 
-fn job(picture: &Picture, random: &mut Random) {
-    let order = shuffled(CELLS, random);
+fn job(picture: &Picture, seed: u64) {
+    let order = job_order(picture, seed);
     let plain = bare::job(picture, &order, uncached::steps::Cache::New);
     let kept = cached::job(picture, &order, oracle::steps::Cache::Kept);
     let port = PORT.then(|| port_side::job(picture, &order));
     let head = format!("| {} | {} ", picture.colours, picture.tiles.len() / 9);
     let sum = |times: [f64; 4]| times.iter().sum::<f64>();
-    for (at, part) in ["set-up", "1,000 lays", "1,000 listings", "1 scan"].into_iter().enumerate() {
+    for (at, part) in JOB_PARTS.into_iter().enumerate() {
         let (text, port) = (plain[at], port.map(|times| times[at]));
         println!("{head}| {part} | {} | {} {} |", micros(text), micros(kept[at]), against(port, text));
     }

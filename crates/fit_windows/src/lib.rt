@@ -142,11 +142,11 @@ fn narrowed(
     window_colours(left, tiles, patch, q)
 }
 
-fn window_place(i: usize) -> usize
+fn window_place(i: usize) -> u8
     requires { ⌜ i < 9 ⌝ }
     ensures { λ r. ⌜ r ≡ getD windowOrder i 0 ⌝ }
 {
-    WINDOW_ORDER[i] as usize
+    WINDOW_ORDER[i]
 }
 
 // The colours listed at (row, col), as bits. The cells round it are read once, and each window is tested in that patch. The windows are
@@ -171,7 +171,8 @@ fn viable_colours(
         if left == 0 {
             return 0;
         }
-        left = narrowed(left, &patch, tiles, row, col, window_place(i));
+        let q = window_place(i) as usize;
+        left = narrowed(left, &patch, tiles, row, col, q);
         i += 1;
     }
     left

@@ -38,7 +38,10 @@ window-place-requires c κs = search needs
 
 -- the place that the cell has in the window
 placed : (c : tie.After-window-place Inv-loop μ-loop) → c .window-place .result < 9
-placed c = rw (c .window-place .ensures) (order-lt (c .before .before .before .before .loop .i) (search needs))
+placed c = rw (c .window-place .ensures) (order-lt (c .before .before .before .loop .i) (search needs))
+
+cast-q : tie.Need-cast-q Inv-loop μ-loop
+cast-q c = record { fits = omega (arith, placed c) }
 
 narrowed-requires : tie.Need-narrowed-requires Inv-loop μ-loop
 narrowed-requires c κs =
@@ -48,7 +51,7 @@ narrowed-requires c κs =
       few-lt _ _ _ (p .0 .colours) (l .loop .inv .1),
       (
         painted 25 _ (p .0 .tried .board) (r .patch-at .ensures),
-        (ready-coloured _ _ _ _ _ (p .0), placed c),
+        (ready-coloured _ _ _ _ _ (p .0), placed (c .before)),
       ),
     )
 
@@ -64,8 +67,8 @@ loop-again c =
     let r = l .before .before in
     let d = r .before .before .before in (
       search needs,
-      left-turn _ _ _ _ _ _ (d .pre .0 .colours) (l .loop .inv .1) (c .before .window-place .ensures)
-          (keeps-ext (c .narrowed .ensures) (λ t a b. in-patch _ _ _ _ _ _ _ (d .pre .1 .colwise) (r .patch-at .ensures) t _ (placed (c .before)))),
+      left-turn _ _ _ _ _ _ (d .pre .0 .colours) (l .loop .inv .1) (c .before .before .window-place .ensures)
+          (keeps-ext (c .narrowed .ensures) (λ t a b. in-patch _ _ _ _ _ _ _ (d .pre .1 .colwise) (r .patch-at .ensures) t _ (placed (c .before .before)))),
     )
 
 returns-2 : tie.Need-returns-2 Inv-loop μ-loop
@@ -83,6 +86,7 @@ viable-colours-spec =
     loop-holds
     returns
     window-place-requires
+    cast-q
     narrowed-requires
     add-i
     loop-less
