@@ -4,13 +4,13 @@
 --     pattern-is    place i of what starts at a cell is i / 3 down and i % 3 right of it, and shows the colour there
 --     start-is, kept-is     the window that has the cell at place q starts q / 3 above and q % 3 left of it, and is kept unless that is
 --                   above or left of the grid
---     is-kept, skipped-above, skipped-left     the tests that say so
+--     is-kept       the tests that say so
 -- Assumes nothing.
 use Prim.Native.Nat.{ℕ, _+_, _-_, _/_, _%_, _*_, _<_, _≤_}
 use mathlib.Core.Path.{_≡_, _∙_}
-use mathlib.Core.Bool.{true, false, _&&_}
+use mathlib.Core.Bool.{true, _&&_}
 use mathlib.Core.List.{List}
-use borrow.Author.Tests.{lt-ltb, le-ltb, le-leb, lt-leb}
+use borrow.Author.Tests.{lt-ltb, le-ltb, le-leb}
 use lib.Dec.{leb, ltb}
 use Rattle.base.proofs.Bools.{and-both, and-no-left, and-no-right, pick-yes, pick-no}
 use Rattle.base.proofs.Numbers.{row-of, col-of}
@@ -59,9 +59,3 @@ module _ (rows cols : ℕ) (cell : Cell) where
 
     pub is-kept : i / 3 ≤ cell .0 → i % 3 ≤ cell .1 → flat rows cols .kept (entryOf cols cell) i ≡ true
     is-kept p q = kept-is ∙ and-both _ _ (le-leb (i / 3) (cell .0) p) (le-leb (i % 3) (cell .1) q)
-
-    pub skipped-above : cell .0 < i / 3 → flat rows cols .kept (entryOf cols cell) i ≡ false
-    skipped-above p = kept-is ∙ and-no-left _ _ (lt-leb (i / 3) (cell .0) p)
-
-    pub skipped-left : cell .1 < i % 3 → flat rows cols .kept (entryOf cols cell) i ≡ false
-    skipped-left q = kept-is ∙ and-no-right (leb (i / 3) (cell .0)) _ (lt-leb (i % 3) (cell .1) q)

@@ -144,7 +144,7 @@ fn mask_for(colour: u8) -> u8
 
 // The same for the window's first eight cells: with 127 added each colour reaches the highest bit of its byte, a bare cell does not, and
 // none goes past its byte.
-fn masks_for(cells: &[u8], width: usize, at: usize) -> u64
+fn eight_masks(cells: &[u8], width: usize, at: usize) -> u64
     requires { ⌜ at + width + width + 3 ≤ length (now cells) ⌝ }
     requires { ⌜ Painted (now cells) ⌝ }
     ensures { λ r. ⌜ r ≡ packed 8 (λ i. maskOf (shownIn (before cells) width at i)) ⌝ }
@@ -163,7 +163,7 @@ pub fn tile_fits(tiles: &[u8], n: usize, cells: &[u8], width: usize, at: usize) 
 {
     let tile = n * rules::TILE_CELLS;
     let first = eight(cells, width, at);
-    if (eight(tiles, 3, tile) & masks_for(cells, width, at)) != first {
+    if (eight(tiles, 3, tile) & eight_masks(cells, width, at)) != first {
         return false;
     }
     let last = cells[at + width + width + 2];

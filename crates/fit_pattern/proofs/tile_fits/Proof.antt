@@ -1,12 +1,13 @@
 -- `fit_pattern::tile_fits` meets its contract: eight cells read as one number, and the ninth, compare as the fit test does. Assumes nothing.
-use Prim.Native.Nat.{ℕ, _<_}
+use Prim.Native.Nat.{ℕ, _*_, _<_}
 use mathlib.Core.Path.{_≡_, sym, _∙_, ap₂}
+use mathlib.Core.List.{List}
 use native.Mathlib.Omega.{arith}
 use lib.Bits.{bitAnd}
 use lib.ListN.{getD}
 use Rattle.fit_pattern.specs.Patch.{shownIn}
-use Rattle.fit_pattern.specs.Packed.{packed, maskOf}
-use Rattle.fit_pattern.proofs.Packed.{firstLeft, left-there, ninth-decides}
+use Rattle.fit_pattern.specs.Packed.{cellsFrom, packed, maskOf}
+use Rattle.fit_pattern.proofs.Packed.{left-there, ninth-decides}
 use Rattle.fit_pattern.proofs.Patch.{tile-is, shown-each, last-is}
 use borrow.Author.Needs.{needs}
 use Rattle.fit_pattern.proofs.tile_fits.Statement.{statement}
@@ -21,18 +22,33 @@ eight-requires c κs = search needs
 eight-requires-2 : tie.Need-eight-requires-2
 eight-requires-2 c κs = search needs
 
-masks-for-requires : tie.Need-masks-for-requires
-masks-for-requires c κs = search needs
+eight-masks-requires : tie.Need-eight-masks-requires
+eight-masks-requires c κs = search needs
+
+-- what both ways know: the window's cells and the tile's are bytes, and what was read of the tile and of the masks
+module _ (m : tie.After-eight-masks) where
+  abbrev tiles : List ℕ
+  tiles = m .before .before .before .before .before .args .tiles .now
+
+  abbrev shown : ℕ → ℕ
+  shown = let a = m .before .before .before .before .before .args in shownIn (a .cells .now) (a .width) (a .at)
+
+  colours : (i : ℕ) → shown i < 256
+  colours =
+      let a = m .before .before .before .before .before .args in
+      shown-each (a .cells .now) (a .width) (a .at) (λ x. x < 256) (λ i. omega (arith, m .before .before .before .shared-slice-known2 .given i))
+
+  bytes : (i : ℕ) → getD tiles i 0 < 256
+  bytes i = omega (arith, m .before .before .before .before .shared-slice-known .given i)
+
+  read : bitAnd (m .before .eight2 .result) (m .eight-masks .result)
+      ≡ bitAnd (packed 8 (cellsFrom tiles (m .before .before .before .before .before .args .n * 9))) (packed 8 (λ i. maskOf (shown i)))
+  read = ap₂ bitAnd (m .before .eight2 .ensures ∙ tile-is 8 _ _) (m .eight-masks .ensures)
 
 returns : tie.Need-returns
 returns c =
-    let e = c .before .before .before in
-    let a = e .before .before .before .args in
-    let shown : ℕ → ℕ = shownIn (a .cells .now) (a .width) (a .at) in
-    let colours : (i : ℕ) → shown i < 256 = shown-each (a .cells .now) (a .width) (a .at) (λ x. x < 256) (λ i. omega (arith, e .before .shared-slice-known2 .given i)) in
-    let bytes : (i : ℕ) → getD (a .tiles .now) i 0 < 256 = λ i. omega (arith, e .before .before .shared-slice-known .given i) in
-    left-there (a .tiles .now) shown (a .n) colours bytes
-    (λ h. c .if1 .taken (ap₂ bitAnd (c .before .before .eight2 .ensures ∙ tile-is 8 _ _) (c .before .masks-for .ensures) ∙ h ∙ sym (e .eight .ensures)))
+    let m = c .before in
+    left-there (tiles m) (shown m) _ (colours m) (bytes m) (λ h. c .if1 .taken (read m ∙ h ∙ sym (m .before .before .eight .ensures)))
 
 add-last : tie.Need-add-last
 add-last c = search needs
@@ -58,13 +74,10 @@ mask-for-requires c κs = search needs
 returns-2 : tie.Need-returns-2
 returns-2 c =
     let f = c .before .before .before in
-    let e = f .before .before .before in
-    let a = e .before .before .before .args in
-    let shown : ℕ → ℕ = shownIn (a .cells .now) (a .width) (a .at) in
-    let colours : (i : ℕ) → shown i < 256 = shown-each (a .cells .now) (a .width) (a .at) (λ x. x < 256) (λ i. omega (arith, e .before .shared-slice-known2 .given i)) in
-    let bytes : (i : ℕ) → getD (a .tiles .now) i 0 < 256 = λ i. omega (arith, e .before .before .shared-slice-known .given i) in
-    rw (c .mask-for .ensures, last-is (a .cells .now) (a .width) (a .at)) (ninth-decides (a .tiles .now) shown (a .n) colours bytes
-    (sym (ap₂ bitAnd (f .before .before .eight2 .ensures ∙ tile-is 8 _ _) (f .before .masks-for .ensures)) ∙ f .if1 .left ∙ e .eight .ensures))
+    let m = f .before in
+    let a = m .before .before .before .before .before .args in
+    rw (c .mask-for .ensures, last-is (a .cells .now) (a .width) (a .at)) (ninth-decides (tiles m) (shown m) (a .n) (colours m) (bytes m)
+    (sym (read m) ∙ f .if1 .left ∙ m .before .before .eight .ensures))
 
 pub tile-fits-spec : {M : Type 1} → statement M
 tile-fits-spec =
@@ -73,7 +86,7 @@ tile-fits-spec =
     mul-tile
     eight-requires
     eight-requires-2
-    masks-for-requires
+    eight-masks-requires
     returns
     add-last
     add-last-2

@@ -1,4 +1,4 @@
--- `fit_pattern::masks_for` meets its contract: the masks of eight colours at once. Assumes nothing.
+-- `fit_pattern::eight_masks` meets its contract: the masks of eight colours at once. Assumes nothing.
 use Prim.Native.Nat.{ℕ, _+_, _*_, _/_, _^_, _<_, _≤_}
 use mathlib.Core.Path.{_≡_}
 use native.Mathlib.Omega.{arith}
@@ -8,8 +8,8 @@ use Rattle.fit_pattern.specs.Packed.{packed, maskOf}
 use Rattle.fit_pattern.proofs.Packed.{packed-add, packed-lt, masks-is, masks-lt}
 use Rattle.fit_pattern.proofs.Patch.{shown-each}
 use borrow.Author.Needs.{needs}
-use Rattle.fit_pattern.proofs.masks_for.Statement.{statement}
-use Rattle.fit_pattern.proofs.masks_for.Tie as tie
+use Rattle.fit_pattern.proofs.eight_masks.Statement.{statement}
+use Rattle.fit_pattern.proofs.eight_masks.Tie as tie
 
 eight-requires : tie.Need-eight-requires
 eight-requires c κs = search needs
@@ -41,5 +41,5 @@ returns : tie.Need-returns
 unfolding shown
 returns c = masks c
 
-pub masks-for-spec : {M : Type 1} → statement M
-masks-for-spec = tie.close (tie.spec eight-requires add-laid mul-result returns)
+pub eight-masks-spec : {M : Type 1} → statement M
+eight-masks-spec = tie.close (tie.spec eight-requires add-laid mul-result returns)
