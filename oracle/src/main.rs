@@ -100,6 +100,10 @@ fn main() -> ExitCode {
             return ExitCode::from(2);
         }
     };
+    if options.port_times && !cfg!(feature = "port") {
+        eprintln!("--port-times: this driver was built without the port");
+        return ExitCode::from(2);
+    }
     if options.port_times {
         speed::port_times(options.plan.seed, options.colours);
         return ExitCode::SUCCESS;

@@ -1,4 +1,4 @@
-//! Both sides timed on the same inputs, as a Markdown report.
+//! Both sides timed on the same inputs, as a Markdown report; or the port alone, line by line.
 //!
 //! The board is 64x64. Its full picture repeats a random patch, and the sample is that patch with two rows and columns of
 //! its repetition, so every window of the board is a tile: no dead end ends a scan early. A part of the picture is laid.
@@ -432,7 +432,7 @@ fn pictures(seed: u64, colours: Option<u32>) -> Vec<Picture> {
 }
 
 /// A picture laid in part: its pieces, their weights and its bare cells in the order in which calls go to them.
-fn part(picture: &Picture, seed: u64, laid: usize) -> (Vec<u32>, Vec<u32>, Vec<usize>) {
+fn laid_in_part(picture: &Picture, seed: u64, laid: usize) -> (Vec<u32>, Vec<u32>, Vec<usize>) {
     let mut random = Random::new(&[seed, u64::from(picture.colours), laid as u64]);
     let pieces = picture.laid(laid, &mut random);
     let weights = inputs::weights_of(&pieces, SIDE, SIDE);
@@ -456,7 +456,7 @@ pub fn port_times(seed: u64, colours: Option<u32>) {
         };
         line("-", "extraction", port_side::extraction(picture));
         for laid in LAID {
-            let (pieces, weights, cells) = part(picture, seed, laid);
+            let (pieces, weights, cells) = laid_in_part(picture, seed, laid);
             let times = port_side::calls(picture, &pieces, &weights, &cells);
             let steps = [("listing", times.listing), ("lay", times.lay), ("lift", times.lift), ("scan", times.scan)];
             steps.into_iter().for_each(|(step, seconds)| line(&format!("{laid}%"), step, seconds));
@@ -517,7 +517,7 @@ fn extraction(picture: &Picture) {
 }
 
 fn calls(picture: &Picture, seed: u64, laid: usize) {
-    let (pieces, weights, cells) = part(picture, seed, laid);
+    let (pieces, weights, cells) = laid_in_part(picture, seed, laid);
     let mut plain = bare::Case::new(picture, &pieces, &weights, &cells);
     let mut cached = cached::Case::new(picture, &pieces, &weights, &cells);
     let port = PORT.then(|| port_side::calls(picture, &pieces, &weights, &cells));

@@ -1,6 +1,6 @@
 -- Cells read as one number: equal exactly if they are equal cell by cell; `+` and `&` go cell by cell. So a window and a tile, each read as
 -- one number, compare as the fit test does.
---     packed-ext, packed-lt, packed-join, packed-none, packed-each    the number of some cells
+--     packed-ext, packed-lt, packed-mono, packed-join, packed-none    the number of some cells
 --     one-is, pair-is, joined    the cells of a list from one on
 --     packed-eq, packed-add, packed-times, and-packed    comparison, `+`, `*` and `&`
 --     laid-bit, masks-is    the masks of some colours at once
@@ -10,7 +10,7 @@ use Prim.Native.Nat.{ℕ, zero, suc, _+_, _*_, _/_, _%_, _^_, _<_, _≤_}
 use mathlib.Core.Path.{_≡_, refl, sym, _∙_, ap, ap₂, subst}
 use mathlib.Core.Bool.{Bool, true, false, _&&_, _||_}
 use mathlib.Core.List.{List}
-use native.Mathlib.Nat.{lt-suc-self, le-step, add-suc, add-zero, mul-assoc, mul-comm, zero-mul, add-assoc, add-mul, mod-eq-of-lt}
+use native.Mathlib.Nat.{mul-le-mul-right, lt-suc-self, le-step, add-suc, add-zero, mul-assoc, mul-comm, zero-mul, add-assoc, add-mul, mod-eq-of-lt}
 use native.Mathlib.Omega.{arith}
 use borrow.Author.Tests.{eqb-true, eq-eqb, ne-eqb}
 use lib.Arith.{digits-lt, digits-div, digits-mod}
@@ -36,6 +36,11 @@ pub packed-lt : (n : ℕ) (f : ℕ → ℕ) → ((i : ℕ) → i < n → f i < 2
 unfolding packed
 packed-lt zero f h = omega arith
 packed-lt (suc n) f h = subst (λ (p : ℕ). f n * 2 ^ (8 * n) + packed n f < p) (power n) (digits-lt (h n (lt-suc-self n)) (packed-lt n f (λ i l. h i (le-step l))))
+
+pub packed-mono : (n : ℕ) (f g : ℕ → ℕ) → ((i : ℕ) → i < n → f i ≤ g i) → packed n f ≤ packed n g
+unfolding packed
+packed-mono zero f g h = omega arith
+packed-mono (suc n) f g h = omega (arith, mul-le-mul-right (2 ^ (8 * n)) (h n (lt-suc-self n)), packed-mono n f g (λ i l. h i (le-step l)))
 
 pub packed-join : (m n : ℕ) (f : ℕ → ℕ) → packed (m + n) f ≡ packed n (λ i. f (m + i)) * 2 ^ (8 * m) + packed m f
 unfolding packed
@@ -145,9 +150,6 @@ masks-is n f h =
     mask : (b : Bool) → pick b 0 1 * 255 ≡ pick b 0 255
     mask true = refl
     mask false = refl
-
-pub masks-lt : (n : ℕ) (f : ℕ → ℕ) → packed n (λ i. maskOf (f i)) < 2 ^ (8 * n)
-masks-lt n f = packed-lt n _ (λ i l. mask-lt (eqb (f i) 0))
 
 turn : (a b : ℕ) → eqb a b ≡ eqb b a
 turn a b = same-test (eqb a b) (eqb b a) (λ e. eq-eqb b a (sym (eqb-true a b e))) (λ e. eq-eqb a b (sym (eqb-true b a e)))

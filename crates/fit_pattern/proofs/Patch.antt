@@ -20,7 +20,7 @@ use Rattle.base.proofs.Numbers.{cell-is, row-of, col-of, col-lt}
 use Rattle.rules.specs.Grid.{cellAt, entryOf, entryOrPast, flat, colourOn}
 use Rattle.rules.specs.Fit.{pattern}
 use Rattle.rules.specs.declared.Cell.{Cell}
-use Rattle.fit_pattern.specs.Patch.{entryBack, patchRound, windowIn, shownIn, standing}
+use Rattle.fit_pattern.specs.Patch.{entryBack, patchRound, windowIn, shownIn, windowOf}
 use Rattle.fit_pattern.specs.Packed.{cellsFrom, packed}
 use Rattle.fit_pattern.proofs.Packed.{packed-ext, packed-join}
 use Rattle.fit_pattern.proofs.Flat.{startFor, placeFrom, pattern-is, start-is}
@@ -65,10 +65,10 @@ module _ (rows cols : ℕ) (pieces : List ℕ) (cell : Cell) (q : ℕ) (q< : q <
       back-on rows cols (cellAt (cell .0 + down q i) (cell .1 + right q i)) (omega arith) (omega (arith, col-lt q 3 (lit< tt)))
       ∙ ap₂ (λ (x y : ℕ). entryOrPast rows cols (cellAt x y)) r c
 
-  pub stands : (patch : List ℕ) → patch ≡ tab 25 (patchRound rows cols pieces cell)
-      → (i : ℕ) → i < 9 → standing patch q i ≡ pattern (flat rows cols) pieces (flat rows cols .start (entryOf cols cell) q) i
+  pub window-shown : (patch : List ℕ) → patch ≡ tab 25 (patchRound rows cols pieces cell)
+      → (i : ℕ) → i < 9 → windowOf patch q i ≡ pattern (flat rows cols) pieces (flat rows cols .start (entryOf cols cell) q) i
   unfolding shownIn
-  stands patch read i i< =
+  window-shown patch read i i< =
       ap (λ (j : ℕ). getD patch j 0) (place-is q i q< i<)
       ∙ read-is 25 (patchRound rows cols pieces cell) read (down q i * 5 + right q i) (place< q i q< i<)
       ∙ ap₂ (λ (r c : ℕ). colourOn pieces (entryBack rows cols (cellAt (cell .0 + r) (cell .1 + c)))) (row-of (down q i) (right< q i q< i<))

@@ -25,5 +25,5 @@ unfoldable pub shownIn : List ℕ → ℕ → ℕ → ℕ → ℕ
 shownIn cells width at i = getD cells (at + (i / 3 * width + i % 3)) 0
 
 -- the window that has the cell at place q, where it stands in the patch
-abbrev pub standing : List ℕ → ℕ → ℕ → ℕ
-standing patch q = shownIn patch 5 (windowIn q)
+abbrev pub windowOf : List ℕ → ℕ → ℕ → ℕ
+windowOf patch q = shownIn patch 5 (windowIn q)

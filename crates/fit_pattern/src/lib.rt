@@ -35,8 +35,8 @@ fn colour_at(pieces: &[u32], rows: usize, cols: usize, r: usize, c: usize) -> u8
     (pieces[r * cols + c] - rules::BARE_PIECE) as u8
 }
 
-// The nine colours of the window that starts at (row, col).
-pub fn window_at(
+// The nine colours of the region that starts at (row, col).
+pub fn region_at(
     pieces: &[u32],
     rows: usize,
     cols: usize,
@@ -45,15 +45,15 @@ pub fn window_at(
 ) -> [u8; rules::TILE_CELLS]
     requires { ⌜ Readable (now pieces) rows cols ⌝ }
     requires { ⌜ CellOn rows cols row col ⌝ }
-    ensures { λ w. ⌜ w ≡ tab 9 (pattern (flat rows cols) (before pieces) (entryOf cols (cellAt row col))) ⌝ }
+    ensures { λ x. ⌜ x ≡ tab 9 (pattern (flat rows cols) (before pieces) (entryOf cols (cellAt row col))) ⌝ }
 {
-    let mut window = [0u8; rules::TILE_CELLS];
+    let mut region = [0u8; rules::TILE_CELLS];
     let mut i = 0;
     while i < rules::TILE_CELLS {
-        window[i] = colour_at(pieces, rows, cols, row + i / 3, col + i % 3);
+        region[i] = colour_at(pieces, rows, cols, row + i / 3, col + i % 3);
         i += 1;
     }
-    window
+    region
 }
 
 // The colour on the cell two up and two left of (r, c); 0 where it is bare or past any edge.
@@ -154,7 +154,9 @@ fn eight_masks(cells: &[u8], width: usize, at: usize) -> u64
     laid / 0x80 * 0xff
 }
 
-// Tile n fits the window: its cells, where the window is laid, are the window's. Eight are compared at once; most tiles are left there.
+// Tile n fits the window that starts at cell `at` of what was read, whose rows have `width` cells: the tile's cells, where the window is
+// laid, are the window's. Eight are compared at once; most tiles are left there. In a walk of the tiles the window's number and its masks
+// are the same each time, and the compiler makes them once.
 pub fn tile_fits(tiles: &[u8], n: usize, cells: &[u8], width: usize, at: usize) -> bool
     requires { ⌜ n * 9 + 9 ≤ length (now tiles) ⌝ }
     requires { ⌜ at + width + width + 3 ≤ length (now cells) ⌝ }

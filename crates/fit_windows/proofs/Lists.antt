@@ -26,9 +26,9 @@ use Rattle.rules.specs.Sets.{has, bitsOf}
 use Rattle.rules.specs.Grid.{Shape, cellAt, entryOf, flat}
 use Rattle.rules.specs.Fit.{fitsTile, serves, hasFitting, allows, windowOrder, leftAfter, lists}
 use Rattle.bitset_colours.proofs.Digits.{bits-lt, bits-ext, bits-has, none-is}
-use Rattle.fit_pattern.specs.Patch.{patchRound, standing}
+use Rattle.fit_pattern.specs.Patch.{patchRound, windowOf}
 use Rattle.fit_pattern.proofs.Flat.{kept-is}
-use Rattle.fit_pattern.proofs.Patch.{stands}
+use Rattle.fit_pattern.proofs.Patch.{window-shown}
 use Rattle.fit_windows.specs.Kept.{Keeps, allowsIn}
 use Rattle.fit_windows.proofs.Kept.{none-has, keeps-all, keeps-ext, keeps-both, keeps-rest, keeps-none}
 use Rattle.rules.proofs.Fitting.{has-ext}
@@ -111,7 +111,7 @@ module _ (tiles patch : List ℕ) (row col : ℕ) where
   skip-beside q p = keeps-all (λ t. rw (and-no-right (leb (q / 3) row) (leb (q % 3) col) (lt-leb (q % 3) col p)))
 
   -- any other allows what it has a fitting tile for
-  pub kept-left : {left x : ℕ} (q : ℕ) → q / 3 ≤ row → q % 3 ≤ col → Keeps left (hasFitting tiles (standing patch q) q) x
+  pub kept-left : {left x : ℕ} (q : ℕ) → q / 3 ≤ row → q % 3 ≤ col → Keeps left (hasFitting tiles (windowOf patch q) q) x
       → Keeps left (λ t. allowsIn tiles patch row col t q) x
   kept-left q p r h = keeps-ext h (λ t a b. sym (rw (le-leb (q / 3) row p, le-leb (q % 3) col r)))
 
@@ -121,11 +121,11 @@ module _ (rows cols : ℕ) (tiles pieces patch : List ℕ) (row col : ℕ) (colw
     pub in-patch : (t q : ℕ) → q < 9 → allowsIn tiles patch row col t q ≡ allows (flat rows cols) tiles pieces (entryOf cols (cellAt row col)) t q
     unfolding allows
     in-patch t q l =
-        ap (λ (b : Bool). not b || hasFitting tiles (standing patch q) q t) (sym (kept-is rows cols (cellAt row col) q colwise))
+        ap (λ (b : Bool). not b || hasFitting tiles (windowOf patch q) q t) (sym (kept-is rows cols (cellAt row col) q colwise))
         ∙ same-kept (flat rows cols .kept (entryOf cols (cellAt row col)) q) (λ e.
         let both = sym (kept-is rows cols (cellAt row col) q colwise) ∙ e in
-        has-ext tiles (standing patch q) _
-        (stands rows cols pieces (cellAt row col) q l (leb-true (q / 3) row (and-left _ _ both)) (leb-true (q % 3) col (and-right (leb (q / 3) row) _ both)) colwise
+        has-ext tiles (windowOf patch q) _
+        (window-shown rows cols pieces (cellAt row col) q l (leb-true (q / 3) row (and-left _ _ both)) (leb-true (q % 3) col (and-right (leb (q / 3) row) _ both)) colwise
         patch read)
         q t)
       where

@@ -9,10 +9,10 @@ ghost use Rattle.rules.specs.Grid.{cellAt, entryOf, flat};
 ghost use Rattle.rules.specs.Bounds.{maxColours, maxTiles};
 ghost use Rattle.rules.specs.Tests.{tilesIn};
 ghost use Rattle.rules.specs.Sets.{bitsOf};
-ghost use Rattle.rules.specs.Fit.{pattern, fitCount, serves, hasFitting, allows, windowOrder, lists, foundAt};
+ghost use Rattle.rules.specs.Fit.{pattern, fitCount, serves, hasFitting, windowOrder, lists, foundAt};
 ghost use Rattle.rules.specs.Promises.{before};
 ghost use Rattle.rules.specs.declared.Listing.the-variants.{Colours};
-ghost use Rattle.fit_pattern.specs.Patch.{shownIn, standing};
+ghost use Rattle.fit_pattern.specs.Patch.{shownIn, windowOf};
 ghost use Rattle.fit_pattern.specs.Ready.{CellOn, Painted};
 ghost use Rattle.fit_windows.specs.Ready.{Countable, Ready, Coloured};
 ghost use Rattle.fit_windows.specs.Kept.{Keeps, allowsIn};
@@ -30,20 +30,20 @@ fn one_if(test: bool) -> u32
     test as u32
 }
 
-// How many tiles fit the window: all of them where it is bare.
-fn fit_count(tiles: &[u8], window: &[u8; rules::TILE_CELLS]) -> u32
+// How many tiles fit the region: all of them where it is bare.
+fn fit_count(tiles: &[u8], region: &[u8; rules::TILE_CELLS]) -> u32
     requires { ⌜ tilesIn (now tiles) ≤ maxTiles ⌝ }
-    requires { ⌜ Painted (now window) ⌝ }
-    ensures { λ r. ⌜ r ≡ fitCount (before tiles) (shownIn (before window) 3 0) ⌝ }
+    requires { ⌜ Painted (now region) ⌝ }
+    ensures { λ r. ⌜ r ≡ fitCount (before tiles) (shownIn (before region) 3 0) ⌝ }
 {
     let last = tiles.len() / rules::TILE_CELLS;
-    if fit_pattern::is_bare(window, 3, 0) {
+    if fit_pattern::is_bare(region, 3, 0) {
         return last as u32;
     }
     let mut count = 0;
     let mut n = 0;
     while n < last {
-        count += one_if(fit_pattern::tile_fits(tiles, n, window, 3, 0));
+        count += one_if(fit_pattern::tile_fits(tiles, n, region, 3, 0));
         n += 1;
     }
     count
@@ -62,8 +62,8 @@ pub fn fit_count_at(
     requires { ⌜ CellOn rows cols row col ⌝ }
     ensures { λ r. ⌜ r ≡ fitCount (before tiles) (pattern (flat rows cols) (before pieces) (entryOf cols (cellAt row col))) ⌝ }
 {
-    let window = fit_pattern::window_at(pieces, rows, cols, row, col);
-    fit_count(tiles, &window)
+    let region = fit_pattern::region_at(pieces, rows, cols, row, col);
+    fit_count(tiles, &region)
 }
 
 // The set without colour t.
@@ -76,7 +76,7 @@ fn without_colour(bits: u32, t: u32) -> u32
 }
 
 // What is missing still once tile n was tried on the window that has the cell at place q, where it stands in the patch: a tile that fits
-// it serves the colour that it has there.
+// it serves the colour that the tile has at place q.
 fn missing_past(
     missing: u32,
     tiles: &[u8],
@@ -88,7 +88,7 @@ fn missing_past(
     requires { ⌜ Coloured (now tiles) ⌝ }
     requires { ⌜ Painted (now patch) ⌝ }
     requires { ⌜ q < 9 ⌝ }
-    ensures { λ r. ⌜ Keeps missing (λ t. not (serves (before tiles) (standing (before patch) q) q t n)) r ⌝ }
+    ensures { λ r. ⌜ Keeps missing (λ t. not (serves (before tiles) (windowOf (before patch) q) q t n)) r ⌝ }
 {
     let at = fit_pattern::window_in(q);
     if !fit_pattern::tile_fits(tiles, n, patch, fit_pattern::PATCH_SIDE, at) {
@@ -103,7 +103,7 @@ fn window_colours(left: u32, tiles: &[u8], patch: &[u8; fit_pattern::PATCH_CELLS
     requires { ⌜ Coloured (now tiles) ⌝ }
     requires { ⌜ Painted (now patch) ⌝ }
     requires { ⌜ q < 9 ⌝ }
-    ensures { λ r. ⌜ Keeps left (hasFitting (before tiles) (standing (before patch) q) q) r ⌝ }
+    ensures { λ r. ⌜ Keeps left (hasFitting (before tiles) (windowOf (before patch) q) q) r ⌝ }
 {
     let end = tiles.len() / rules::TILE_CELLS;
     let mut missing = left;

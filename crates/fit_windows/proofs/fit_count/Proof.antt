@@ -15,10 +15,10 @@ use Rattle.fit_windows.proofs.fit_count.Statement.{statement}
 use Rattle.fit_windows.proofs.fit_count.Tie as tie
 
 abbrev Inv-loop : tie.InvT-loop
-Inv-loop tiles window last count₀ n₀ count n = (n ≤ tilesIn tiles) × (count ≡ tally n (fitsTile tiles (shownIn window 3 0)))
+Inv-loop tiles region last count₀ n₀ count n = (n ≤ tilesIn tiles) × (count ≡ tally n (fitsTile tiles (shownIn region 3 0)))
 
 abbrev μ-loop : tie.MeasureT-loop
-μ-loop tiles window last count₀ n₀ count n = tilesIn tiles - n
+μ-loop tiles region last count₀ n₀ count n = tilesIn tiles - n
 
 is-bare-requires : tie.Need-is-bare-requires Inv-loop μ-loop
 is-bare-requires c κs = search needs
@@ -42,7 +42,7 @@ one-if-requires c κs = search needs
 add-count : tie.Need-add-count Inv-loop μ-loop
 add-count c = let a = c .before .before .before .before .before .before .before .before .before .args in
     let l = c .before .before .before .before .loop in
-    let f : ℕ → Bool = fitsTile (a .tiles .now) (shownIn (a .window .now) 3 0) in
+    let f : ℕ → Bool = fitsTile (a .tiles .now) (shownIn (a .region .now) 3 0) in
     let t : l .count + c .one-if .result ≡ tally (l .n + 1) f = tally-turn f (l .inv .1) (c .before .tile-fits .ensures) (c .one-if .ensures) in
     record { fits = omega (arith, tally-le f (l .n + 1)) }
 
@@ -55,7 +55,7 @@ loop-less c = search needs
 loop-again : tie.Need-loop-again Inv-loop μ-loop
 loop-again c = let a = c .before .before .before .before .before .before .before .before .before .args in
     let l = c .before .before .before .before .loop in
-    (search needs, tally-turn (fitsTile (a .tiles .now) (shownIn (a .window .now) 3 0)) (l .inv .1) (c .before .tile-fits .ensures) (c .one-if .ensures))
+    (search needs, tally-turn (fitsTile (a .tiles .now) (shownIn (a .region .now) 3 0)) (l .inv .1) (c .before .tile-fits .ensures) (c .one-if .ensures))
 
 returns-2 : tie.Need-returns-2 Inv-loop μ-loop
 unfolding fitCount

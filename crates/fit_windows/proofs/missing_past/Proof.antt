@@ -4,7 +4,7 @@ use mathlib.Core.Path.{_≡_, _∙_, ap}
 use native.Mathlib.Omega.{arith}
 use Rattle.base.proofs.Bools.{fails, passes}
 use Rattle.rules.specs.Fit.{fitsTile}
-use Rattle.fit_pattern.specs.Patch.{shownIn, standing}
+use Rattle.fit_pattern.specs.Patch.{shownIn, windowOf}
 use Rattle.fit_windows.proofs.Lists.{past-misfit, past-fitting}
 use borrow.Author.Needs.{needs}
 use Rattle.fit_windows.proofs.missing_past.Statement.{statement}
@@ -18,7 +18,7 @@ tile-fits-requires c κs = search needs
 
 -- the test, with the window's place as the definition has it
 tested : (c : tie.After-tile-fits) → let a = c .before .before .before .before .args in
-    c .tile-fits .result ≡ fitsTile (a .tiles .now) (standing (a .patch .now) (a .q)) (a .n)
+    c .tile-fits .result ≡ fitsTile (a .tiles .now) (windowOf (a .patch .now) (a .q)) (a .n)
 tested c =
     let a = c .before .before .before .before .args in
     c .tile-fits .ensures ∙ ap (λ (at : ℕ). fitsTile (a .tiles .now) (shownIn (a .patch .now) 5 at) (a .n)) (c .before .before .window-in .ensures)

@@ -1,7 +1,7 @@
 -- `fit_windows::window_colours` meets its contract. The loop's invariant: missing are the colours that no tile passed serves. Assumes nothing.
 use Prim.Native.Nat.{_-_, _≤_}
 use Rattle.rules.specs.Tests.{tilesIn}
-use Rattle.fit_pattern.specs.Patch.{standing}
+use Rattle.fit_pattern.specs.Patch.{windowOf}
 use Rattle.fit_windows.specs.Kept.{Keeps}
 use Rattle.fit_windows.proofs.Kept.{keeps-le}
 use Rattle.fit_windows.proofs.Lists.{unserved, missing-first, missing-turn, missing-end, missing-none}
@@ -10,7 +10,7 @@ use Rattle.fit_windows.proofs.window_colours.Statement.{statement}
 use Rattle.fit_windows.proofs.window_colours.Tie as tie
 
 abbrev Inv-loop : tie.InvT-loop
-Inv-loop left tiles patch q end missing₀ n₀ missing n = (n ≤ tilesIn tiles) × Keeps left (unserved tiles (standing patch q) q n) missing
+Inv-loop left tiles patch q end missing₀ n₀ missing n = (n ≤ tilesIn tiles) × Keeps left (unserved tiles (windowOf patch q) q n) missing
 
 abbrev μ-loop : tie.MeasureT-loop
 μ-loop left tiles patch q end missing₀ n₀ missing n = tilesIn tiles - n
