@@ -232,6 +232,6 @@ int main(void)
     puts("stack of the deepest path, in bytes, and over how many calls");
     for (int function = 0; function < FUNCTIONS; function++)
         printf("  %-21s %5zu %5zu\n", functions[function].name, functions[function].deepest, functions[function].calls);
-    bool listing = over(LISTING, LISTING_LIMIT), run = over(RUN, RUN_LIMIT);
-    return listing || run;
+    int faults = over(LISTING, LISTING_LIMIT) + over(RUN, RUN_LIMIT);
+    return faults > 0;
 }

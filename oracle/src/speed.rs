@@ -1,6 +1,6 @@
 //! Both sides timed on the same inputs, as a Markdown report; or the port alone, line by line.
 //!
-//! The board is 64x64. Its full picture repeats a random patch, and the sample is that patch with two rows and columns of
+//! The board is 64x64. Its full picture repeats a random block, and the sample is that block with two rows and columns of
 //! its repetition, so every window of the board is a tile: no dead end ends a scan early. A part of the picture is laid.
 //! Times are the best of several batches, each of many calls, in time of the processor: other work on the machine can only
 //! add to them.
@@ -15,8 +15,8 @@ const SIDE: usize = 64;
 const CELLS: usize = SIDE * SIDE;
 const COLOURS: [u32; 3] = [4, 12, 30];
 const LAID: [usize; 3] = [5, 30, 70];
-/// The patch's sides, and the tiles that it gives with all turned and mirrored forms if no two are equal.
-const PATCHES: [(usize, usize, usize); 3] = [(5, 5, 200), (5, 25, 1_000), (30, 30, 7_200)];
+/// The block's sides, and the tiles that it gives with all turned and mirrored forms if no two are equal.
+const BLOCKS: [(usize, usize, usize); 3] = [(5, 5, 200), (5, 25, 1_000), (30, 30, 7_200)];
 
 const LISTINGS: usize = 200;
 const LAYS: usize = 100;
@@ -35,14 +35,14 @@ struct Picture {
 }
 
 impl Picture {
-    /// Of some random patches that with the most distinct tiles: with few colours some are equal.
-    fn new(colours: u32, patch: (usize, usize, usize), random: &mut Random) -> Self {
-        let mut picture = Self::of(colours, patch, random);
+    /// Of some random blocks that with the most distinct tiles: with few colours some are equal.
+    fn new(colours: u32, block: (usize, usize, usize), random: &mut Random) -> Self {
+        let mut picture = Self::of(colours, block, random);
         for _ in 0..200 {
-            if picture.tiles.len() == patch.2 * 9 || patch.2 > 1_000 {
+            if picture.tiles.len() == block.2 * 9 || block.2 > 1_000 {
                 break;
             }
-            let other = Self::of(colours, patch, random);
+            let other = Self::of(colours, block, random);
             if other.tiles.len() > picture.tiles.len() {
                 picture = other;
             }
@@ -51,8 +51,8 @@ impl Picture {
     }
 
     fn of(colours: u32, (rows, cols, _): (usize, usize, usize), random: &mut Random) -> Self {
-        let patch: Vec<u8> = (0..rows * cols).map(|_| 1 + random.below(colours as usize) as u8).collect();
-        let at = |row: usize, col: usize| patch[row % rows * cols + col % cols];
+        let block: Vec<u8> = (0..rows * cols).map(|_| 1 + random.below(colours as usize) as u8).collect();
+        let at = |row: usize, col: usize| block[row % rows * cols + col % cols];
         let sample_sides = [rows + 2, cols + 2];
         let sample: Vec<u8> =
             (0..sample_sides[0] * sample_sides[1]).map(|k| at(k / sample_sides[1], k % sample_sides[1])).collect();
@@ -426,8 +426,8 @@ fn pictures(seed: u64, colours: Option<u32>) -> Vec<Picture> {
     COLOURS
         .into_iter()
         .filter(|&count| colours.is_none_or(|only| only == count))
-        .flat_map(|count| PATCHES.map(|patch| (count, patch)))
-        .map(|(count, patch)| Picture::new(count, patch, &mut Random::new(&[seed, u64::from(count), patch.2 as u64])))
+        .flat_map(|count| BLOCKS.map(|block| (count, block)))
+        .map(|(count, block)| Picture::new(count, block, &mut Random::new(&[seed, u64::from(count), block.2 as u64])))
         .collect()
 }
 

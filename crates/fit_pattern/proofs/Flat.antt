@@ -4,7 +4,7 @@
 --     pattern-is    place i of what starts at a cell is i / 3 down and i % 3 right of it, and shows the colour there
 --     start-is, kept-is     the window that has the cell at place q starts q / 3 above and q % 3 left of it, and is kept unless that is
 --                   above or left of the grid
---     is-kept       the tests that say so
+--     is-kept       the test that says so
 -- Assumes nothing.
 use Prim.Native.Nat.{ℕ, _+_, _-_, _/_, _%_, _*_, _<_, _≤_}
 use mathlib.Core.Path.{_≡_, _∙_}

@@ -4,7 +4,7 @@
 --     one-is, pair-is, joined    the cells of a list from one on
 --     packed-eq, packed-add, packed-times, and-packed    comparison, `+`, `*` and `&`
 --     laid-bit, masks-is    the masks of some colours at once
---     masked-fits    the fit test; left-there, ninth-decides its two ways
+--     masked-fits, bare-cells    the fit test, and the test for a bare window; left-there, ninth-decides the two ways of the first
 -- Assumes nothing.
 use Prim.Native.Nat.{ℕ, zero, suc, _+_, _*_, _/_, _%_, _^_, _<_, _≤_}
 use mathlib.Core.Path.{_≡_, refl, sym, _∙_, ap, ap₂, subst}

@@ -1,6 +1,6 @@
 -- A window where it stands.
 --     back-on, back-above, back-left    the entry two up and two left of a cell
---     stands       what the patch round a cell shows where one of its kept windows stands is that window's pattern
+--     window-shown    what the patch round a cell shows where one of its kept windows stands is that window's pattern
 --     whole-is     what nine colours that were read show, whole
 --     tile-is      the cells of a tile
 --     shown-each, last-is, eight-is    what holds of each cell, the ninth, and eight read as one number

@@ -1,11 +1,11 @@
--- What the reading of a window leans on: the bounds that the checks of document 01 give where they pass.
+-- What the reading of a board and the fit test lean on: the bounds that the checks of document 01 give where they pass.
 use Prim.Native.Nat.{ℕ, _+_, _*_, _<_, _≤_}
 use mathlib.Core.Path.{_≡_}
 use mathlib.Core.List.{List}
 use lib.ListN.{length, getD}
 use Rattle.rules.specs.Bounds.{maxColours, maxBoardSide}
 
--- a board whose windows can be read
+-- a board that can be read
 pub record Readable (pieces : List ℕ) (rows cols : ℕ) : Type 0 where
   pub tall : rows ≤ maxBoardSide
   pub wide : cols ≤ maxBoardSide
