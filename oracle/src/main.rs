@@ -39,7 +39,8 @@ const USE: &str = "differential: the text and the port on the same inputs
   --mutants      each mutant in turn; fails unless every one is seen
   --record DIR   writes the fixed list, a file for each of its steps, to a folder that is there
   --speed        times both sides, as Markdown; --colours N only those cases (4, 12, 30)
-  --port-times   times the port alone, a line for each case of --speed, for oracle/side-by-side";
+  --port-times   times the port alone, a line for each case of --speed, for oracle/side-by-side
+  --port-counted makes the calls of those cases for a counter of instructions, for oracle/side-by-side";
 
 struct Options {
     plan: Plan,
@@ -50,6 +51,7 @@ struct Options {
     record: Option<PathBuf>,
     speed: bool,
     port_times: bool,
+    port_counted: bool,
     colours: Option<u32>,
 }
 
@@ -65,6 +67,7 @@ fn options() -> Result<Options, String> {
         record: None,
         speed: false,
         port_times: false,
+        port_counted: false,
         colours: None,
     };
     let mut words = std::env::args().skip(1);
@@ -84,6 +87,7 @@ fn options() -> Result<Options, String> {
             "--record" => options.record = Some(value()?.into()),
             "--speed" => options.speed = true,
             "--port-times" => options.port_times = true,
+            "--port-counted" => options.port_counted = true,
             "--colours" => options.colours = Some(number(value()?)? as u32),
             _ => return Err(USE.into()),
         }
@@ -100,12 +104,13 @@ fn main() -> ExitCode {
             return ExitCode::from(2);
         }
     };
-    if options.port_times && !cfg!(feature = "port") {
-        eprintln!("--port-times: this driver was built without the port");
-        return ExitCode::from(2);
-    }
-    if options.port_times {
-        speed::port_times(options.plan.seed, options.colours);
+    if options.port_times || options.port_counted {
+        if !cfg!(feature = "port") {
+            eprintln!("this driver was built without the port");
+            return ExitCode::from(2);
+        }
+        let measure = if options.port_times { speed::port_times } else { speed::port_counted };
+        measure(options.plan.seed, options.colours);
         return ExitCode::SUCCESS;
     }
     println!("{}; text {}", if cfg!(feature = "port") { "the port" } else { MODEL }, oracle::TEXT_SUM);

@@ -367,6 +367,19 @@ mod port_side {
         Times { listing, lay, lift, scan, listed }
     }
 
+    /// The steps' calls made once, each step's between `counted` and its end.
+    pub fn counted_calls(picture: &Picture, pieces: &[u32], weights: &[u32], bare: &[usize]) {
+        let (list, lay) = (&bare[..LISTINGS / 10], &bare[..LAYS / 10]);
+        let counts = vec![picture.tiles.len() as u32 / 9; CELLS];
+        let mut board = Planes { pieces: pieces.to_vec(), weights: weights.to_vec(), counts };
+        counted(&mut || {
+            black_box(list.iter().map(|&cell| board.listing(picture, cell)).sum::<u64>());
+        });
+        counted(&mut || lay.iter().for_each(|&cell| board.lay(picture, cell)));
+        counted(&mut || lay.iter().rev().for_each(|&cell| board.lift(picture, cell)));
+        counted(&mut || board.scan(picture));
+    }
+
     pub fn extraction(picture: &Picture) -> f64 {
         let [rows, cols] = picture.sample_sides;
         best(
@@ -463,6 +476,25 @@ pub fn port_times(seed: u64, colours: Option<u32>) {
         }
         let times = port_side::job(picture, &job_order(picture, seed));
         JOB_PARTS.into_iter().zip(times).for_each(|(step, seconds)| line("job", step, seconds));
+    }
+}
+
+/// What a counter of instructions counts: a function of its own, which it knows by its name.
+#[inline(never)]
+fn counted(calls: &mut dyn FnMut()) {
+    calls();
+}
+
+/// The port alone under a counter of instructions: a line for each case that has been counted, in order, without a number.
+pub fn port_counted(seed: u64, colours: Option<u32>) {
+    for picture in &pictures(seed, colours) {
+        for laid in LAID {
+            let (pieces, weights, cells) = laid_in_part(picture, seed, laid);
+            port_side::counted_calls(picture, &pieces, &weights, &cells);
+            for step in ["listing", "lay", "lift", "scan"] {
+                println!("{}\t{}\t{laid}%\t{step}", picture.colours, picture.tiles.len() / 9);
+            }
+        }
     }
 }
 

@@ -19,37 +19,6 @@ mul-tile c = search needs
 eight-requires : tie.Need-eight-requires
 eight-requires c κs = search needs
 
-eight-requires-2 : tie.Need-eight-requires-2
-eight-requires-2 c κs = search needs
-
-eight-masks-requires : tie.Need-eight-masks-requires
-eight-masks-requires c κs = search needs
-
--- what both ways know: the window's cells and the tile's are bytes, and what was read of the tile and of the masks
-module _ (m : tie.After-eight-masks) where
-  abbrev tiles : List ℕ
-  tiles = m .before .before .before .before .before .args .tiles .now
-
-  abbrev shown : ℕ → ℕ
-  shown = let a = m .before .before .before .before .before .args in shownIn (a .cells .now) (a .width) (a .at)
-
-  colours : (i : ℕ) → shown i < 256
-  colours =
-      let a = m .before .before .before .before .before .args in
-      shown-each (a .cells .now) (a .width) (a .at) (λ x. x < 256) (λ i. omega (arith, m .before .before .before .shared-slice-known2 .given i))
-
-  bytes : (i : ℕ) → getD tiles i 0 < 256
-  bytes i = omega (arith, m .before .before .before .before .shared-slice-known .given i)
-
-  read : bitAnd (m .before .eight2 .result) (m .eight-masks .result)
-      ≡ bitAnd (packed 8 (cellsFrom tiles (m .before .before .before .before .before .args .n * 9))) (packed 8 (λ i. maskOf (shown i)))
-  read = ap₂ bitAnd (m .before .eight2 .ensures ∙ tile-is 8 _ _) (m .eight-masks .ensures)
-
-returns : tie.Need-returns
-returns c =
-    let m = c .before in
-    left-there (tiles m) (shown m) _ (colours m) (bytes m) (λ h. c .if1 .taken (read m ∙ h ∙ sym (m .before .before .eight .ensures)))
-
 add-last : tie.Need-add-last
 add-last c = search needs
 
@@ -62,6 +31,37 @@ add-last-3 c = search needs
 shared-slice-read-last : tie.Need-shared-slice-read-last
 shared-slice-read-last c = search needs
 
+eight-requires-2 : tie.Need-eight-requires-2
+eight-requires-2 c κs = search needs
+
+eight-masks-requires : tie.Need-eight-masks-requires
+eight-masks-requires c κs = search needs
+
+-- what both ways know: the window's cells and the tile's are bytes, and what was read of the tile and of the masks
+module _ (m : tie.After-eight-masks) where
+  abbrev tiles : List ℕ
+  tiles = m .before .before .before .before .before .before .args .tiles .now
+
+  abbrev shown : ℕ → ℕ
+  shown = let a = m .before .before .before .before .before .before .args in shownIn (a .cells .now) (a .width) (a .at)
+
+  colours : (i : ℕ) → shown i < 256
+  colours =
+      let a = m .before .before .before .before .before .before .args in
+      shown-each (a .cells .now) (a .width) (a .at) (λ x. x < 256) (λ i. omega (arith, m .before .before .before .before .shared-slice-known2 .given i))
+
+  bytes : (i : ℕ) → getD tiles i 0 < 256
+  bytes i = omega (arith, m .before .before .before .before .before .shared-slice-known .given i)
+
+  read : bitAnd (m .before .eight2 .result) (m .eight-masks .result)
+      ≡ bitAnd (packed 8 (cellsFrom tiles (m .before .before .before .before .before .before .args .n * 9))) (packed 8 (λ i. maskOf (shown i)))
+  read = ap₂ bitAnd (m .before .eight2 .ensures ∙ tile-is 8 _ _) (m .eight-masks .ensures)
+
+returns : tie.Need-returns
+returns c =
+    let m = c .before in
+    left-there (tiles m) (shown m) _ (colours m) (bytes m) (λ h. c .if1 .taken (read m ∙ h ∙ sym (m .before .before .before .eight .ensures)))
+
 add-result : tie.Need-add-result
 add-result c = search needs
 
@@ -73,11 +73,11 @@ mask-for-requires c κs = search needs
 
 returns-2 : tie.Need-returns-2
 returns-2 c =
-    let f = c .before .before .before in
+    let f = c .before .before in
     let m = f .before in
-    let a = m .before .before .before .before .before .args in
+    let a = m .before .before .before .before .before .before .args in
     rw (c .mask-for .ensures, last-is (a .cells .now) (a .width) (a .at)) (ninth-decides (tiles m) (shown m) (a .n) (colours m) (bytes m)
-    (sym (read m) ∙ f .if1 .left ∙ m .before .before .eight .ensures))
+    (sym (read m) ∙ f .if1 .left ∙ m .before .before .before .eight .ensures))
 
 pub tile-fits-spec : {M : Type 1} → statement M
 tile-fits-spec =
@@ -85,13 +85,13 @@ tile-fits-spec =
     (tie.spec
     mul-tile
     eight-requires
-    eight-requires-2
-    eight-masks-requires
-    returns
     add-last
     add-last-2
     add-last-3
     shared-slice-read-last
+    eight-requires-2
+    eight-masks-requires
+    returns
     add-result
     shared-slice-read-result
     mask-for-requires
