@@ -155,8 +155,8 @@ fn eight_masks(cells: &[u8], width: usize, at: usize) -> u64
 }
 
 // Tile n fits the window that starts at cell `at` of what was read, whose rows have `width` cells: the tile's cells, where the window is
-// laid, are the window's. Eight are compared at once; most tiles are left there. In a walk of the tiles all that is read of the window is
-// the same each time and is read before the test, so that the compiler reads it once.
+// laid, are the window's. Eight are compared at once; most tiles are left there. In a walk of the tiles the window's number and its masks
+// are the same each time, and the compiler makes them once.
 pub fn tile_fits(tiles: &[u8], n: usize, cells: &[u8], width: usize, at: usize) -> bool
     requires { ⌜ n * 9 + 9 ≤ length (now tiles) ⌝ }
     requires { ⌜ at + width + width + 3 ≤ length (now cells) ⌝ }
