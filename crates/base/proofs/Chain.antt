@@ -147,11 +147,13 @@ climbs (cs then ds) e = let o = ordered cs ds e in le_trans (climbs cs o.0) (le_
 
 at_least : {m : ℕ} (cs : Checks) → ascending cs ≡ true → Fails m cs → first_number cs ≤ m
 at_least (n unless false) e here = le_refl _
+at_least (n unless true) e f = elim f [ ]
 at_least (cs then ds) e (early f) = at_least cs (ordered cs ds e).0 f
 at_least (cs then ds) e (late f) = let o = ordered cs ds e in le_trans (climbs cs o.0) (le_trans o.2 (at_least ds o.1 f))
 
 at_most : {m : ℕ} (cs : Checks) → ascending cs ≡ true → Fails m cs → m ≤ last_number cs
 at_most (n unless false) e here = le_refl _
+at_most (n unless true) e f = elim f [ ]
 at_most (cs then ds) e (early f) = let o = ordered cs ds e in le_trans (at_most cs o.0 f) (le_trans o.2 (climbs ds o.1))
 at_most (cs then ds) e (late f) = at_most ds (ordered cs ds e).1 f
 
@@ -160,6 +162,8 @@ fails-refused : {m : ℕ} (cs : Checks) → numbered cs ≡ true → Fails m cs 
 unfolding refusal
 fails-refused (zero unless false) p here e = never false p refl
 fails-refused (suc n unless false) p here e = omega arith
+fails-refused (zero unless true) p f e = elim f [ ]
+fails-refused (suc n unless true) p f e = elim f [ ]
 fails-refused (cs then ds) p (early f) e =
     fails-refused cs (and_left (numbered cs) (numbered ds) p) f (both-none (refusal cs) (refusal ds) e).0
 fails-refused (cs then ds) p (late f) e =

@@ -1,5 +1,7 @@
 // The text's algorithm/bitset.rs: sets of colours, 32 bits with their size. Each call checks the sets that it is given: COUNT for a size
 // out of bounds and for two sizes that differ, CELL for a set that marks a colour past its size.
+#![tactic(auto)]
+
 ghost use Rattle.std.specs.Prelude.{◌≡◌, true};
 ghost use Rattle.base.specs.Refusal.{refusal};
 ghost use Rattle.rules.specs.Tests.{colour_count};

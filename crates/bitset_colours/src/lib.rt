@@ -1,5 +1,7 @@
 // Sets of colours by their bits, for calls that have made the checks: colour t is bit t-1; 0 is no colour and in no set.
 // What they promise they promise for any number n of bits that holds the set; 32 stands in these few lines and in no law.
+#![tactic(auto)]
+
 ghost use Rattle.std.specs.Prelude.{◌≡◌, true, ◌&&◌, ◌||◌, ℕ, ◌/◌, ◌^◌, ◌<◌, ◌≤◌, eqb, length};
 ghost use Rattle.rules.specs.Bounds.{max_colours};
 ghost use Rattle.rules.specs.Sets.{has, bits_of, colours_of, colour_list};

@@ -1,5 +1,7 @@
 // Lay and lift on a board, three lent planes, pieces, weights and counts. A refused call changes none of them. Places are wall
 // coordinates; the offset leads to the cell.
+#![tactic(auto)]
+
 ghost use Rattle.rules.specs.Promises.{before, board_before, board_after, panel, Lays, Lifts};
 
 use board_moves::{lay_at, lift_at};

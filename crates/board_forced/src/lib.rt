@@ -1,4 +1,6 @@
 // Document 02, request 2: the forced pieces of a board run out from a place, in one call. Document 01's checks are made once, on entry.
+#![tactic(auto)]
+
 ghost use Rattle.std.specs.Prelude.{◌≡◌};
 ghost use Rattle.base.specs.Refusal.{refusal};
 ghost use Rattle.rules.specs.Board.{board_checks};

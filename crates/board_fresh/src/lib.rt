@@ -1,4 +1,6 @@
 // Fresh, which document 01 adds: the three planes of a board on which no piece stands. A refused call changes none of them.
+#![tactic(auto)]
+
 ghost use Rattle.rules.specs.Promises.{board_before, board_after, Freshens};
 
 use board_planes::{fill, lengths_refused};

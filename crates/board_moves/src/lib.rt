@@ -1,4 +1,6 @@
 // Lay and lift by the rule alone, their checks made: the piece, then the weights, then the counts.
+#![tactic(auto)]
+
 ghost use Rattle.std.specs.Prelude.{◌≡◌, ◌≤◌};
 ghost use Rattle.rules.specs.Bounds.{max_colours};
 ghost use Rattle.rules.specs.Grid.{entry_of, flat};

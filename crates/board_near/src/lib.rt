@@ -1,4 +1,6 @@
 // What is near a cell: the distance of two cells, and the spans of radius 2 round a place on the board.
+#![tactic(auto)]
+
 ghost use Rattle.std.specs.Prelude.{◌≡◌, max};
 ghost use Rattle.rules.specs.Grid.{cell_at, gap, distance};
 ghost use Rattle.board_near.specs.Near.{end_clipped, near_spans};

@@ -1,4 +1,6 @@
 // The three planes of a board, pieces, weights and counts: the checks that the calls on a board share, and a plane filled with one value.
+#![tactic(auto)]
+
 ghost use Rattle.std.specs.Prelude.{◌≡◌, ◌≤◌, ◌<◌, length};
 ghost use Rattle.base.specs.Tables.{tab};
 ghost use Rattle.base.specs.Refusal.{refusal};

@@ -1,4 +1,6 @@
 // Document 01, "Weights, counts, scores": the recount of the regions near a cell whose piece changed.
+#![tactic(auto)]
+
 ghost use Rattle.std.specs.Prelude.{◌≡◌, ◌+◌, ◌<◌, ◌≤◌, length};
 ghost use Rattle.base.specs.Refusal.{refusal};
 ghost use Rattle.base.specs.Regions.{over_row};

@@ -1,5 +1,7 @@
 // A forced run by the rule alone, its checks made: forced places are queued, taken, and laid where they are still forced, until none
 // waits, the budget is spent or the queue has no room. The planes are read only round the places of the run.
+#![tactic(auto)]
+
 ghost use Rattle.std.specs.Prelude.{◌≡◌, true, not, ◌&&◌, List, [], ℕ, ◌+◌, ◌<◌, ◌≤◌, ltb};
 ghost use Rattle.rules.specs.Bounds.{queue_room, max_budget};
 ghost use Rattle.rules.specs.Tests.{on_wall, on_board};

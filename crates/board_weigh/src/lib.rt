@@ -1,5 +1,7 @@
 // The weight that the standing pieces alone say of a cell (demand 3): 1, plus 3 per piece at most one cell away, plus 1 per piece exactly
 // two away. A piece further away adds nothing, so that at most the 25 cells round the cell are looked at.
+#![tactic(auto)]
+
 ghost use Rattle.std.specs.Prelude.{◌≡◌, ◌<◌, ◌≤◌, get_or};
 ghost use Rattle.rules.specs.Bounds.{max_board_side};
 ghost use Rattle.rules.specs.Grid.{entry_of, flat};

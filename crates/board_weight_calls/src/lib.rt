@@ -1,4 +1,6 @@
 // Document 01, "Weights, counts, scores": the two calls on a weights plane, their checks first. A refused call changes nothing.
+#![tactic(auto)]
+
 ghost use Rattle.std.specs.Prelude.{◌≡◌};
 ghost use Rattle.base.specs.Refusal.{refusal};
 ghost use Rattle.rules.specs.Grid.{flat};

@@ -1,5 +1,7 @@
 // Document 01, "Weights, counts, scores": the weights that a piece adds and takes back by the rule alone, its checks made. The loops run
 // over the span of radius 2 round the piece and leave every other cell alone.
+#![tactic(auto)]
+
 ghost use Rattle.std.specs.Prelude.{◌≡◌, ◌+◌, ◌-◌, ◌≤◌, length};
 ghost use Rattle.base.specs.Regions.{over_row};
 ghost use Rattle.rules.specs.Bounds.{max_board_side};

@@ -1,5 +1,7 @@
 // Document 02, request 1: the board of a panel moves into three larger planes. Pieces and old weights go along with their cells; new
 // cells are bare and are weighed by the standing pieces; all counts are counted anew. A refused call changes none of the planes.
+#![tactic(auto)]
+
 ghost use Rattle.std.specs.Prelude.{◌≡◌, ◌+◌, ◌*◌, ◌<◌, ◌≤◌, length};
 ghost use Rattle.base.specs.Regions.{between, inside};
 ghost use Rattle.base.specs.Tables.{tab};

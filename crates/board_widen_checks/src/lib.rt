@@ -1,5 +1,7 @@
 // Document 02, request 1: the checks of a widening, in the order of document 01's numbers. Pads are any
 // numbers: a sum is taken only where the sides that they make are board sides. Of the larger planes only the lengths are read.
+#![tactic(auto)]
+
 ghost use Rattle.std.specs.Prelude.{◌≡◌, true, ◌≤◌};
 ghost use Rattle.base.specs.Refusal.{refusal};
 ghost use Rattle.rules.specs.Bounds.{max_board_side};

@@ -1,5 +1,7 @@
 // How answers cross to another language: an answer is 0 or the refusal's number, and what a call finds goes into slices lent for it, a
 // cell, a span or a set as its numbers. An entry past the end of such a slice is not stored; a refused call stores none.
+#![tactic(auto)]
+
 ghost use Rattle.std.specs.Prelude.{◌≡◌};
 ghost use Rattle.rules.specs.Promises.{before, after};
 ghost use Rattle.boundary.specs.Boundary.{written_number, lay_number, lift_number, TellsWidening, TellsListing, TellsSet, TellsVerdict};

@@ -1,4 +1,6 @@
 // Answers that cross to another language with 64-bit numbers or a float: how many, how a run ended, a cell, spans, a fraction; as `boundary` says.
+#![tactic(auto)]
+
 ghost use Rattle.std.specs.Prelude.{◌≡◌};
 ghost use Rattle.rules.specs.Promises.{before, after};
 ghost use Rattle.boundary.specs.Boundary.{ran_stored, TellsCount, TellsFraction, TellsSpans, TellsTiles, TellsDeadEnd, TellsRun};

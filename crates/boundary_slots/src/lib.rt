@@ -1,5 +1,7 @@
 // What every crossing to another language uses: a value put into an entry of a lent slice, a place or an offset taken from its two numbers,
 // a box from its corners, an offset put into two entries, a truth as 0 or 1. An entry past the end of such a slice is not stored.
+#![tactic(auto)]
+
 ghost use Rattle.std.specs.Prelude.{◌≡◌};
 ghost use Rattle.rules.specs.Promises.{before, after};
 ghost use Rattle.boundary_slots.specs.Slots.{put, world, offset_by, bounds_from, offset_stored, digit_of};

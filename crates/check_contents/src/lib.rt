@@ -1,5 +1,7 @@
 // The tests of document 01's refusal table that many calls share: what a plane holds. Each reads the whole of the plane that it is lent: no
 // loop leaves early, so that the compiler can take many cells at a time.
+#![tactic(auto)]
+
 ghost use Rattle.std.specs.Prelude.{◌≡◌, true, ◌&&◌, ℕ, ◌<◌, leb};
 ghost use Rattle.base.specs.Counting.{within};
 ghost use Rattle.base.specs.Refusal.{refusal};

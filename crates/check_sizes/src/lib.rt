@@ -1,4 +1,6 @@
 // The tests of document 01's refusal table that many calls share: sides, lengths and counts. Each answers whether its input is in order.
+#![tactic(auto)]
+
 ghost use Rattle.std.specs.Prelude.{◌≡◌, true, ◌*◌};
 ghost use Rattle.base.specs.Counting.{within};
 ghost use Rattle.rules.specs.Tests.{board_sides, sample_sides, has_length, tile_number_fits, whole_tiles, colour_count};

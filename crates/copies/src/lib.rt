@@ -1,5 +1,7 @@
 // Document 01, "Places": a plane is copied into a larger one, of which the new cells hold 1. The larger one is filled with 1 whole,
 // and then the rows are laid in it.
+#![tactic(auto)]
+
 ghost use Rattle.rules.specs.Promises.{before, after, CopiesWords, CopiesFloats};
 
 use copy_checks::copy_refused;

@@ -1,4 +1,6 @@
 // The sides that pads make, and the checks that the two copies of a plane share.
+#![tactic(auto)]
+
 ghost use Rattle.std.specs.Prelude.{◌≡◌, true, ◌+◌, ◌*◌};
 ghost use Rattle.base.specs.Counting.{within};
 ghost use Rattle.base.specs.Refusal.{refusal};

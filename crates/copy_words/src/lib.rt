@@ -1,4 +1,6 @@
 // The larger plane of a copy, of u32: filled with 1, and the rows of the old plane laid in it, each in its part of a row of the larger.
+#![tactic(auto)]
+
 ghost use Rattle.std.specs.Prelude.{◌≡◌, length};
 ghost use Rattle.base.specs.Tables.{tab};
 ghost use Rattle.rules.specs.Promises.{before, after};

@@ -1,6 +1,8 @@
 // The functions of the desk program, which is C: fitting colours, lay, lift, the forced run, widening and plain scores on numbers, byte
 // tiles, u32 planes and a plane of scores. include/desk.h is their C side, for the C programmer; a place goes over as a row and a column on
 // the wall, the offset likewise, a span as its two ends; each answer is 0 or document 01's refusal number.
+#![tactic(auto)]
+
 ghost use Rattle.rules.specs.Promises.{before, after, board_before, board_after};
 ghost use Rattle.boundary_slots.specs.Slots.{world, bounds_from, pads_by};
 ghost use Rattle.desk.specs.Desk.{TellsColours, DeskLists, DeskLays, DeskLifts, DeskRuns, ran_with, DeskWidens, larger, DeskScores, DeskScoresNear};

@@ -1,5 +1,7 @@
 // Document 01's bench cases of the listing and its bounds, as the running code has them. "Chequer" is the two tiles of the listing
 // program's example.
+#![tactic(auto)]
+
 use libc::STDOUT_FILENO;
 use rules::{Cell, CountAnswer, FractionAnswer, Listing, Offset, World};
 

@@ -1,5 +1,7 @@
 // Document 01, "Fit", forced neighbours: the text's `detect_forced_positions`. A neighbour outside the box or the grid, or laid, is not
 // listed.
+#![tactic(auto)]
+
 ghost use Rattle.std.specs.Prelude.{◌≡◌, true, List, [], ◌<◌, pos, ◌+ℤ◌, ◌-ℤ◌, get_or};
 ghost use Rattle.base.specs.Whole.{within_z};
 ghost use Rattle.base.specs.Refusal.{refusal};

@@ -1,5 +1,7 @@
 // Document 01's bench cases of forced neighbours and of the dead end, with their edges and refusals, on the compiled code. "Chequer" is
 // the two tiles of the listing program's sample.
+#![tactic(auto)]
+
 use libc::STDOUT_FILENO;
 use rules::{
     BoundingBox, Cell, DeadEnd, ForcedAnswer, ForcedPosition, ForcedPositions, GenerationBounds,

@@ -1,6 +1,8 @@
 // The patch of cells round a cell, the 3x3 pattern of a region, and the test whether a tile fits a window. What is read is bytes, row by
 // row: the colour laid at each place, 0 where it is bare or past the edge. A window is tested where it stands in what was read. The tiles
 // are many and are tried one after the other, so the test reads eight cells at once.
+#![tactic(auto)]
+
 ghost use Rattle.std.specs.Prelude.{◌≡◌, ◌+◌, ◌*◌, ◌<◌, ◌≤◌, eqb, length};
 ghost use Rattle.base.specs.Counting.{every};
 ghost use Rattle.base.specs.Tables.{tab};

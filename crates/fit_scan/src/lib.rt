@@ -1,4 +1,6 @@
 // Document 01, "Fit", the dead end: the text's `check_for_contradiction`. A cell that is laid, or has no weight above 1, is not listed.
+#![tactic(auto)]
+
 ghost use Rattle.std.specs.Prelude.{◌≡◌};
 ghost use Rattle.base.specs.Refusal.{refusal};
 ghost use Rattle.rules.specs.Grid.{entry_of, flat};

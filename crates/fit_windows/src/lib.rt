@@ -1,4 +1,6 @@
 // Document 01, "Fit", for calls that have made the checks: how many tiles fit a region, and which colours fit a cell, by its nine windows.
+#![tactic(auto)]
+
 ghost use Rattle.std.specs.Prelude.{◌≡◌, not, ◌+◌, ◌*◌, ◌^◌, ◌<◌, ◌≤◌, eqb, length, get_or};
 ghost use Rattle.base.specs.Counting.{pick};
 ghost use Rattle.rules.specs.Grid.{cell_at, entry_of, flat};

@@ -1,5 +1,7 @@
 // The calls of the port for tests in another language: each hands its call the numbers and slices that it is given and tells its answer
 // as crate boundary does. Lay and lift are not among them: tests call the desk's.
+#![tactic(auto)]
+
 ghost use Rattle.rules.specs.Grid.{cell_at, flat};
 ghost use Rattle.rules.specs.Fit.{region_count};
 ghost use Rattle.rules.specs.Forced.{dead_end};

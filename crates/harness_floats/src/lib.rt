@@ -1,5 +1,7 @@
 // The float steps for tests in another language: each hands its call the numbers and slices that it is given and tells its answer as crate
 // boundary does.
+#![tactic(auto)]
+
 ghost use Rattle.rules.specs.Promises.{before, after, Normalises, Multiplies, Divides, ScoresLay, ScoresLift};
 ghost use Rattle.probability_influence.specs.Step.{block_of};
 ghost use Rattle.boundary_slots.specs.Slots.{world, offset_by, span_from};

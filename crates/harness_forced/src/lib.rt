@@ -1,5 +1,7 @@
 // Forced neighbours and the queue for tests in another language: each function hands its call the numbers and slices that it is given
 // and tells its answer as crate boundary does. Positions cross as specs/Slices.antt has them.
+#![tactic(auto)]
+
 ghost use Rattle.rules.specs.Forced.{queue_empty, queue_length};
 ghost use Rattle.rules.specs.Promises.{before, after};
 ghost use Rattle.boundary_slots.specs.Slots.{world, offset_by, bounds_from};

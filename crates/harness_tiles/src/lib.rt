@@ -1,5 +1,7 @@
 // The calls on places, tiles and sets for tests in another language: each hands its call the numbers and slices that it is given and
 // tells its answer as crate boundary does.
+#![tactic(auto)]
+
 ghost use Rattle.std.specs.Prelude.{◌≡◌};
 ghost use Rattle.rules.specs.Places.{box_contains, extension_of, boxed_extension};
 ghost use Rattle.rules.specs.Sets.{members_listed};

@@ -1,4 +1,6 @@
 // The listing program: a job on standard input, its answers, planes and dead end on standard output.
+#![tactic(auto)]
+
 fn main() {
     let mut input = [0u8; listing_text::INPUT_ROOM];
     let read = io::read_full(libc::STDIN_FILENO, &mut input);

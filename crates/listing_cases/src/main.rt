@@ -1,4 +1,6 @@
 // The listing program's work on each of the files 00, 01, .. in turn, up to the first that is not there; data/INDEX says what each shows.
+#![tactic(auto)]
+
 use libc::STDOUT_FILENO;
 
 fn digit(n: usize) -> u8 {

@@ -1,4 +1,6 @@
 // What stands under the steps' answers: the planes and the scan.
+#![tactic(auto)]
+
 ghost use Rattle.std.specs.Prelude.{◌≡◌, true, ◌++◌, ◌≤◌};
 ghost use Rattle.rules.specs.Bounds.{max_cells};
 ghost use Rattle.rules.specs.Tests.{board_sides};

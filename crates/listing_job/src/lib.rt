@@ -1,4 +1,6 @@
 // The job of the listing program: the numbers of its input, whether they are of its form and what they ask for.
+#![tactic(auto)]
+
 mod job;
 
 pub use job::{form_of, step_end};

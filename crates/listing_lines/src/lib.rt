@@ -1,5 +1,7 @@
 // Numbers and planes as text, written into a lent buffer. Each call takes the entry at which it starts and answers the entry after what it
 // wrote; what would pass the buffer's end is dropped, and the answer stays at the end.
+#![tactic(auto)]
+
 ghost use Rattle.std.specs.Prelude.{◌≡◌, [], ◌∷◌, ◌+◌, ◌-◌, ◌%◌, ◌<◌, length};
 ghost use Rattle.base.specs.Lent.{before, after};
 ghost use Rattle.listing_lines.specs.Lines.{digits, decimal, number_line, parting, cell_text, plane_text};

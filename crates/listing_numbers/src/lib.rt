@@ -1,4 +1,6 @@
 // The input of the listing program as text: its bytes as numbers.
+#![tactic(auto)]
+
 mod numbers;
 
 pub use numbers::read_input;

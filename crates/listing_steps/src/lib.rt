@@ -1,4 +1,6 @@
 // A job's steps on its board, each with its answer on a line.
+#![tactic(auto)]
+
 ghost use Rattle.std.specs.Prelude.{◌≡◌, ◌<◌, ◌≤◌, length};
 ghost use Rattle.rules.specs.Promises.{before, board_before, board_after};
 ghost use Rattle.listing_numbers.specs.Input.{max_number};

@@ -1,4 +1,6 @@
 // The listing program's work: the bytes that it prints for the bytes that it reads. The program itself only reads, calls and writes.
+#![tactic(auto)]
+
 mod job;
 
 ghost use Rattle.io.specs.Counts.{IsPrefixLen};

@@ -1,4 +1,6 @@
 // Document 01, "Places": a box on the wall, and what it contains.
+#![tactic(auto)]
+
 ghost use Rattle.std.specs.Prelude.{◌≡◌};
 ghost use Rattle.rules.specs.Places.{in_box, box_fits, box_contains};
 

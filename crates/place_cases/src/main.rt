@@ -1,4 +1,6 @@
 // Places on the compiled code: document 01's case of extension, and the ends of every range.
+#![tactic(auto)]
+
 use libc::STDOUT_FILENO;
 use rules::{BoundingBox, ExtensionAnswer, Offset, Pads, SpanAnswer, Verdict, World, Written};
 

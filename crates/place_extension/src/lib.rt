@@ -1,4 +1,6 @@
 // Document 01, "Places": the extension of a grid, without and with a box.
+#![tactic(auto)]
+
 ghost use Rattle.std.specs.Prelude.{◌≡◌};
 ghost use Rattle.base.specs.Refusal.{refusal};
 ghost use Rattle.rules.specs.Places.{extension_of, boxed_extension, extension_checks};

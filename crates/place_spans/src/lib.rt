@@ -1,4 +1,6 @@
 // Document 01, "Places": the spans of rows and columns of a radius round a place, which may lie off the board.
+#![tactic(auto)]
+
 ghost use Rattle.std.specs.Prelude.{◌≡◌, ◌≤◌, ◌+ℤ◌};
 ghost use Rattle.base.specs.Refusal.{refusal};
 ghost use Rattle.rules.specs.Bounds.{max_radius};

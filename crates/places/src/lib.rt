@@ -1,6 +1,8 @@
 // Document 01, "Places": wall coordinates and cell indices. A wall coordinate becomes an index only through the offset, and
 // only here. Their sum is taken in 64 bits, where no two of them overflow, so that these functions ask nothing of their input: a
 // neighbour of a place on the wall may lie off it.
+#![tactic(auto)]
+
 ghost use Rattle.std.specs.Prelude.{◌≡◌, min, ◌&&◌, ◌+ℤ◌};
 ghost use Rattle.base.specs.Whole.{clip, within_z, index_below};
 ghost use Rattle.base.specs.Refusal.{refusal};

@@ -1,5 +1,7 @@
 // Document 01, "Probabilities": the three calls, their checks first. All probabilities stand in one plane, colour by colour, each row by
 // row.
+#![tactic(auto)]
+
 ghost use Rattle.rules.specs.Promises.{before, after, Normalises, Multiplies, Divides};
 ghost use Rattle.probability_influence.specs.Step.{block_of};
 ghost use Rattle.probabilities.specs.Calls.{Changes};

@@ -1,4 +1,6 @@
 // The checks of the three calls on probabilities: of normalising, and of the product step and its reverse.
+#![tactic(auto)]
+
 ghost use Rattle.std.specs.Prelude.{◌≡◌, ◌&&◌};
 ghost use Rattle.base.specs.Counting.{within};
 ghost use Rattle.base.specs.Refusal.{refusal};

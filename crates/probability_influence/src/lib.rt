@@ -1,4 +1,6 @@
 // The product step and its reverse over a region, document 01, "Probabilities". Every float step is one rounded operation.
+#![tactic(auto)]
+
 ghost use Rattle.std.specs.Prelude.{◌≡◌, ◌≤◌, ltb, length, get_or};
 ghost use Rattle.std.specs.Float.{nan};
 ghost use Rattle.std.specs.Float.Ieee.{ne};

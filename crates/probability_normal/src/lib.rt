@@ -1,5 +1,7 @@
 // Normalising, document 01, "Probabilities": the probabilities of one place are taken from the plane that holds them all, and normalised.
 // Every float step is one rounded operation, in the order in which the text takes them.
+#![tactic(auto)]
+
 ghost use Rattle.std.specs.Prelude.{◌≡◌, map, ◌+◌, ◌*◌, ◌<◌, length, get_or, Float};
 ghost use Rattle.std.specs.Float.{nan};
 ghost use Rattle.base.specs.Tables.{tab};

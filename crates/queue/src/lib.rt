@@ -1,5 +1,7 @@
 // The queue of forced positions, first in, first out, as `ForcedPipeline` of the text has it: handed in and back whole, and, on that,
 // two calls on a queue that is lent for change.
+#![tactic(auto)]
+
 ghost use Rattle.std.specs.Prelude.{◌≡◌, []};
 ghost use Rattle.rules.specs.Forced.{queue_of, grown_by, taken_from, queue_empty, queue_length};
 ghost use Rattle.rules.specs.Promises.{before, after};

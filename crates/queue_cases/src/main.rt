@@ -1,5 +1,7 @@
 // Document 01's bench case "queue entry 64 passes, 65 gives 10", and the queue's other rules, as the running code has them. Each entry
 // bears its serial number as colour, so what is printed shows the order.
+#![tactic(auto)]
+
 ghost use Rattle.std.specs.Prelude.{◌≤◌};
 
 use libc::STDOUT_FILENO;

@@ -1,5 +1,7 @@
 // The queue's entries by the rule alone: adding and taking, for a caller that has made the checks of crate queue or has a queue of its own.
 // Only the lengths are asked for.
+#![tactic(auto)]
+
 ghost use Rattle.std.specs.Prelude.{◌≡◌, ◌≤◌, [], drop};
 ghost use Rattle.rules.specs.Bounds.{queue_room};
 ghost use Rattle.rules.specs.Places.{same_place};

@@ -1,5 +1,7 @@
 // The queue of a forced run, in three arrays that its caller lends: a queue handed in and back whole would stand on the stack many times
 // over, and the desk's tablet has little of it. Slots are used one after the other, and slot 0 again after the last.
+#![tactic(auto)]
+
 ghost use Rattle.std.specs.Prelude.{◌≡◌, List, ℕ, ◌<◌, ◌≤◌, pos, get_or, set};
 ghost use Rattle.rules.specs.Bounds.{queue_room, added_room};
 ghost use Rattle.rules.specs.Forced.{offered, is_queued, with_position, with_positions};

@@ -1,6 +1,8 @@
 // The fixed list: a sample of the answers of the Rust that the port comes from, made by the driver in oracle/ (see its README): one file
 // for the extraction of tiles, and one for each step on a board and each function of the desk. Each record's call is made again, and its
 // answer and all that it may write are compared with the record.
+#![tactic(auto)]
+
 mod board;
 mod laying;
 mod list;

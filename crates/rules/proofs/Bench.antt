@@ -21,7 +21,7 @@ use Rattle.rules.specs.Grid.{entry_or_past, flat}
 use Rattle.rules.specs.Fit.{agrees, fits_tile, fit_count, has_fitting, allows, left_after, listing}
 use Rattle.rules.specs.Forced.{neighbour, admits, bounds_fit, forces_one, is_forced, forced_there, forced_round, padded, positions_of, forced_neighbours, is_queued, with_position, with_positions, dead_at, dead_end}
 use Rattle.rules.specs.Floats.{all_are}
-use Rattle.rules.specs.Scores.{fraction, box_cells, mean_of, scored, plain_scores, whole_scores, span_score_checks, whole_score_checks}
+use Rattle.rules.specs.Scores.{fraction, box_cells, mean_of, scored, plain_scores, whole_scores, lift_score_checks, whole_score_checks}
 use Rattle.rules.specs.Probabilities.{largest_of, total_of, normalised}
 use Rattle.rules.specs.Board.{Panel, Board, weights_of, counts_of, raised, lowered, recounted, laid, lifted, fresh_board, after_lay, after_lift}
 use Rattle.rules.specs.ForcedRun.{still_forced, queueing, taking, stepped, begun, run_out, run_checks, running, after_run}
@@ -291,13 +291,13 @@ table =
     ∷ seven64 ∷ seven64 ∷ 0x3fe0_e38e_38e3_8e39 ∷ 0x3fda_aaaa_aaaa_aaab
     ∷ seven64 ∷ seven64 ∷ seven64 ∷ seven64 ∷ [])
     -- an old score that is no number: NUMBER where some stay, and nothing where none does
-    ∷ case (refusal (span_score_checks with-nan mixed 3 4 6 (span 0 3) (span 0 4)) ∷ []) (5 ∷ [])
+    ∷ case (refusal (lift_score_checks with-nan mixed 3 4 6 (span 0 3) (span 0 4)) ∷ []) (5 ∷ [])
     ∷ case (refusal (whole_score_checks with-nan mixed 3 4 6) ∷ []) (0 ∷ [])
     -- a count above the number of tiles; a span end past the board, and of several faults the lowest
     ∷ case (refusal (whole_score_checks sevens mixed 3 4 5) ∷ []) (4 ∷ [])
-    ∷ case (refusal (span_score_checks sevens mixed 3 4 6 (span 0 4) (span 0 4)) ∷ []) (1 ∷ [])
-    ∷ case (refusal (span_score_checks with-nan mixed 3 4 0 (span 0 3) (span 0 4)) ∷ []) (2 ∷ [])
-    ∷ case (refusal (span_score_checks with-nan mixed 3 4 5 (span 0 3) (span 0 4)) ∷ []) (4 ∷ [])
+    ∷ case (refusal (lift_score_checks sevens mixed 3 4 6 (span 0 4) (span 0 4)) ∷ []) (1 ∷ [])
+    ∷ case (refusal (lift_score_checks with-nan mixed 3 4 0 (span 0 3) (span 0 4)) ∷ []) (2 ∷ [])
+    ∷ case (refusal (lift_score_checks with-nan mixed 3 4 5 (span 0 3) (span 0 4)) ∷ []) (4 ∷ [])
     ∷ []
 
 -- a case holds where what is got is what is due

@@ -13,7 +13,7 @@ use Rattle.rules.specs.Sets.{new_set_checks, set_checks, sets_checks}
 use Rattle.rules.specs.Tiles.{membership_checks, extraction_checks}
 use Rattle.rules.specs.Fit.{listing_checks, region_checks}
 use Rattle.rules.specs.Forced.{forced_checks, queue_checks, add_checks, scan_checks}
-use Rattle.rules.specs.Scores.{fraction_checks, lay_score_checks, span_score_checks, whole_score_checks}
+use Rattle.rules.specs.Scores.{fraction_checks, lay_score_checks, lift_score_checks, whole_score_checks}
 use Rattle.rules.specs.Probabilities.{Block, normalise_checks, influence_checks}
 use Rattle.rules.specs.Board.{Panel, Board, fresh_checks, lay_checks, lift_checks, weight_checks, recount_checks}
 use Rattle.rules.specs.Widening.{widen_checks}
@@ -125,8 +125,8 @@ pub lay-score-lowest : (scores : List Float) (counts : List ℕ) (rows cols tile
 lay-score-lowest scores counts rows cols tiles w o = by_order _ refl refl
 
 -- the lift score, and the plain score of two spans
-pub span-score-lowest : (scores : List Float) (counts : List ℕ) (rows cols tiles : ℕ) (rowspan colspan : Span) → Lowest (span_score_checks scores counts rows cols tiles rowspan colspan)
-span-score-lowest scores counts rows cols tiles rowspan colspan = by_order _ refl refl
+pub lift-score-lowest : (scores : List Float) (counts : List ℕ) (rows cols tiles : ℕ) (rowspan colspan : Span) → Lowest (lift_score_checks scores counts rows cols tiles rowspan colspan)
+lift-score-lowest scores counts rows cols tiles rowspan colspan = by_order _ refl refl
 
 pub whole-score-lowest : (scores : List Float) (counts : List ℕ) (rows cols tiles : ℕ) → Lowest (whole_score_checks scores counts rows cols tiles)
 whole-score-lowest scores counts rows cols tiles = by_order _ refl refl

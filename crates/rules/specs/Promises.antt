@@ -9,7 +9,7 @@ use Rattle.rules.specs.Floats.{one64}
 use Rattle.rules.specs.Grid.{Kind, flat, entry_of}
 use Rattle.rules.specs.Places.{cell_of, copied, copy_checks, float_copy_checks}
 use Rattle.rules.specs.Tiles.{extraction, store_after}
-use Rattle.rules.specs.Scores.{lay_scores, lift_scores, plain_scores, whole_scores, lay_score_checks, span_score_checks, whole_score_checks}
+use Rattle.rules.specs.Scores.{lay_scores, lift_scores, plain_scores, whole_scores, lay_score_checks, lift_score_checks, whole_score_checks}
 use Rattle.rules.specs.Probabilities.{Block, probabilities_at, normalised, normalise_checks, multiplied, divided, influence_checks}
 use Rattle.rules.specs.Board.{Panel, Board, laying, after_lay, lifting, after_lift, fresh_board, fresh_checks, raised, lowered, weight_checks, recounted, recount_checks}
 use Rattle.rules.specs.Widening.{widening, after_widen}
@@ -81,11 +81,11 @@ ScoresLay rows cols counts tiles place offset old =
 
 abbrev pub ScoresLift : ℕ → ℕ → List ℕ → ℕ → Span → Span → List Float → Written → List Float → Type 0
 ScoresLift rows cols counts tiles rowspan colspan old =
-    Writes (span_score_checks old counts rows cols tiles rowspan colspan) (lift_scores rows cols counts tiles rowspan colspan old) old
+    Writes (lift_score_checks old counts rows cols tiles rowspan colspan) (lift_scores rows cols counts tiles rowspan colspan old) old
 
 abbrev pub ScoresPlain : ℕ → ℕ → List ℕ → ℕ → Span → Span → List Float → Written → List Float → Type 0
 ScoresPlain rows cols counts tiles rowspan colspan old =
-    Writes (span_score_checks old counts rows cols tiles rowspan colspan) (plain_scores rows cols counts tiles rowspan colspan old) old
+    Writes (lift_score_checks old counts rows cols tiles rowspan colspan) (plain_scores rows cols counts tiles rowspan colspan old) old
 
 abbrev pub ScoresWhole : ℕ → ℕ → List ℕ → ℕ → List Float → Written → List Float → Type 0
 ScoresWhole rows cols counts tiles old = Writes (whole_score_checks old counts rows cols tiles) (whole_scores rows cols counts tiles) old

@@ -42,15 +42,11 @@ plus_term term a k = plus a (term k)
 unfoldable pub mean_of : (ℕ → Float) → List ℕ → Float
 mean_of term cells = over (fold (plus_term term) zero64 cells) (float_of (length cells))
 
--- a score of the cell of entry k: the mean of a term over its box
-abbrev pub score_of : ℕ → ℕ → (ℕ → Float) → ℕ → Float
-score_of rows cols term k = mean_of term (box_cells rows cols (k / cols) (k % cols))
-
--- the cells that fall to a score get it, the others stay
+-- the cells that fall to a score get the mean of a term over their box, the others stay
 unfoldable pub scored : ℕ → ℕ → (ℕ → ℕ → Bool) → (ℕ → Float) → List Float → List Float
 scored rows cols falls term scores =
     tab (length scores)
-    (λ k. pick (falls (k / cols) (k % cols)) (score_of rows cols term k) (get_or scores k nan))
+    (λ k. pick (falls (k / cols) (k % cols)) (mean_of term (box_cells rows cols (k / cols) (k % cols))) (get_or scores k nan))
 
 abbrev pub in_span : Span → ℕ → Bool
 in_span s x = between s.0 s.1 x
@@ -67,17 +63,21 @@ unfoldable pub lay_scores : ℕ → ℕ → List ℕ → ℕ → World → Offse
 lay_scores rows cols counts tiles place offset scores = scored rows cols (lay_falls rows cols place offset) (fraction counts tiles) scores
 
 -- the lift score writes each cell of its spans: the mean of the squared fractions
-abbrev pub in_spans : Span → Span → ℕ → ℕ → Bool
-in_spans rowspan colspan r c = in_span rowspan r && in_span colspan c
+abbrev pub lift_falls : Span → Span → ℕ → ℕ → Bool
+lift_falls rowspan colspan r c = in_span rowspan r && in_span colspan c
 
 unfoldable pub lift_scores : ℕ → ℕ → List ℕ → ℕ → Span → Span → List Float → List Float
 lift_scores rows cols counts tiles rowspan colspan scores =
-    scored rows cols (in_spans rowspan colspan) (squared_fraction counts tiles) scores
+    scored rows cols (lift_falls rowspan colspan) (squared_fraction counts tiles) scores
 
 -- 02, request 4: "a plain score, for either occasion: for any cell, the mean of the unsquared fractions"; in each cell of its spans
 unfoldable pub plain_scores : ℕ → ℕ → List ℕ → ℕ → Span → Span → List Float → List Float
 plain_scores rows cols counts tiles rowspan colspan scores =
-    scored rows cols (in_spans rowspan colspan) (fraction counts tiles) scores
+    scored rows cols (lift_falls rowspan colspan) (fraction counts tiles) scores
+
+-- a score of the cell of entry k: the mean of a term over its box
+abbrev pub score_of : ℕ → ℕ → (ℕ → Float) → ℕ → Float
+score_of rows cols term k = mean_of term (box_cells rows cols (k / cols) (k % cols))
 
 -- "a whole-board scoring by it depends only on the counts"
 unfoldable pub whole_scores : ℕ → ℕ → List ℕ → ℕ → List Float
@@ -97,18 +97,12 @@ unfoldable pub fraction_at : List ℕ → ℕ → ℕ → ℕ → Cell → Fract
 fraction_at counts rows cols tiles k =
     fraction_answer (refusal (fraction_checks counts rows cols tiles k)) (fraction counts tiles (entry_of cols k))
 
--- of the planes and the number of tiles: all that a call asks which fills the scores whole
-abbrev pub counted_checks : List Float → List ℕ → ℕ → ℕ → ℕ → Checks
-counted_checks scores counts rows cols tiles =
+abbrev pub score_checks : List Float → List ℕ → ℕ → ℕ → ℕ → Checks
+score_checks scores counts rows cols tiles =
     LENGTH unless has_length scores (rows * cols)
     then LENGTH unless has_length counts (rows * cols)
     then LENGTH unless tile_number_fits tiles
     then CELL unless none_above counts tiles
-
--- and of the old scores, where some of them stay
-abbrev pub score_checks : List Float → List ℕ → ℕ → ℕ → ℕ → Checks
-score_checks scores counts rows cols tiles =
-    counted_checks scores counts rows cols tiles
     then NUMBER unless all_are is_finite scores
 
 abbrev pub lay_score_checks : List Float → List ℕ → ℕ → ℕ → ℕ → World → Offset → Checks
@@ -117,13 +111,21 @@ lay_score_checks scores counts rows cols tiles place offset =
     then score_checks scores counts rows cols tiles
     then place_checks rows cols place offset
 
--- the lift score's, and the plain score's of two spans. Span ends at most the board's side
-abbrev pub span_score_checks : List Float → List ℕ → ℕ → ℕ → ℕ → Span → Span → Checks
-span_score_checks scores counts rows cols tiles rowspan colspan =
+-- Span ends at most the board's side
+abbrev pub lift_score_checks : List Float → List ℕ → ℕ → ℕ → ℕ → Span → Span → Checks
+lift_score_checks scores counts rows cols tiles rowspan colspan =
     SHAPE unless board_sides rows cols
     then SHAPE unless leb rowspan.1 rows
     then SHAPE unless leb colspan.1 cols
     then score_checks scores counts rows cols tiles
+
+-- all that a call asks of the planes and the number of tiles which fills the scores whole: the old ones are not read
+abbrev pub counted_checks : List Float → List ℕ → ℕ → ℕ → ℕ → Checks
+counted_checks scores counts rows cols tiles =
+    LENGTH unless has_length scores (rows * cols)
+    then LENGTH unless has_length counts (rows * cols)
+    then LENGTH unless tile_number_fits tiles
+    then CELL unless none_above counts tiles
 
 abbrev pub whole_score_checks : List Float → List ℕ → ℕ → ℕ → ℕ → Checks
 whole_score_checks scores counts rows cols tiles =

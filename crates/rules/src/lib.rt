@@ -1,4 +1,5 @@
 // The vocabulary of the port: the bounds of document 01 and the types of its calls. What they mean stands in specs/.
+#![tactic(auto)]
 
 // Document 01, "Bounds".
 pub const MAX_COLOURS: u32 = 30;
@@ -56,37 +57,37 @@ pub const BARE: u8 = 9;
 pub const ROOM: u8 = 10;
 
 // A wall coordinate, counted from the job's origin: row, then column.
-#[derive(Drop)]
+#[derive(Clone, Copy)]
 pub struct World(pub i32, pub i32);
 
 // A cell index, counted from the grid's corner: row, then column.
-#[derive(Drop)]
+#[derive(Clone, Copy)]
 pub struct Cell(pub usize, pub usize);
 
 // What leads from the one to the other: index = coordinate + offset.
-#[derive(Drop)]
+#[derive(Clone, Copy)]
 pub struct Offset(pub i32, pub i32);
 
 // The indices from the first number up to, not including, the second.
-#[derive(Drop)]
+#[derive(Clone, Copy)]
 pub struct Span(pub usize, pub usize);
 
 // Both corners belong to the box; one with min above max contains nothing.
-#[derive(Drop)]
+#[derive(Clone, Copy)]
 pub struct BoundingBox {
     pub min: World,
     pub max: World,
 }
 
 // The box of a call that can do without one.
-#[derive(Drop)]
+#[derive(Clone, Copy)]
 pub enum GenerationBounds {
     Unbounded,
     Within(BoundingBox),
 }
 
 // How many cells are added: left and right to the rows (the first coordinate), top and bottom to the columns.
-#[derive(Drop)]
+#[derive(Clone, Copy)]
 pub struct Pads {
     pub left: usize,
     pub right: usize,
@@ -94,7 +95,7 @@ pub struct Pads {
     pub bottom: usize,
 }
 
-#[derive(Drop)]
+#[derive(Clone, Copy)]
 pub struct ExtensionInfo {
     pub pads: Pads,
     pub offset: Offset,
@@ -102,14 +103,14 @@ pub struct ExtensionInfo {
 }
 
 // A set of the colours 1 to size: colour t is in it where bit t-1 of bits is set.
-#[derive(Drop)]
+#[derive(Clone, Copy)]
 pub struct TileBitset {
     pub bits: u32,
     pub size: u32,
 }
 
 // A place and a colour: in the answer of forced neighbours the one that fits there; in a queue it is not checked.
-#[derive(Drop)]
+#[derive(Clone, Copy)]
 pub struct ForcedPosition {
     pub coordinates: World,
     pub colour: u32,
@@ -117,14 +118,14 @@ pub struct ForcedPosition {
 
 // Forced places in order, as forced neighbours answers them and the queue takes them. Entries past the length are 0 in the answer and
 // are not read by the queue.
-#[derive(Drop)]
+#[derive(Clone, Copy)]
 pub struct ForcedPositions {
     pub entries: [ForcedPosition; ADDED_ROOM],
     pub len: usize,
 }
 
 // The queue: entries stand from entry 0, next out first.
-#[derive(Drop)]
+#[derive(Clone, Copy)]
 pub struct ForcedPipeline {
     pub entries: [ForcedPosition; QUEUE_ROOM],
     pub len: usize,
@@ -132,62 +133,62 @@ pub struct ForcedPipeline {
 
 // Answers. A refusal carries its number alone.
 
-#[derive(Drop)]
+#[derive(Clone, Copy)]
 pub enum SpanAnswer {
     Spans(Span, Span),
     Refused(u8),
 }
 
-#[derive(Drop)]
+#[derive(Clone, Copy)]
 pub enum ExtensionAnswer {
     Extension(ExtensionInfo),
     Refused(u8),
 }
 
-#[derive(Drop)]
+#[derive(Clone, Copy)]
 pub enum Verdict {
     Is(bool),
     Refused(u8),
 }
 
-#[derive(Drop)]
+#[derive(Clone, Copy)]
 pub enum CountAnswer {
     Is(usize),
     Refused(u8),
 }
 
-#[derive(Drop)]
+#[derive(Clone, Copy)]
 pub enum TileNumber {
     Tiles(usize),
     Refused(u8),
 }
 
-#[derive(Drop)]
+#[derive(Clone, Copy)]
 pub enum SetAnswer {
     Set(TileBitset),
     Refused(u8),
 }
 
-#[derive(Drop)]
+#[derive(Clone, Copy)]
 pub enum Listing {
     Colours(TileBitset),
     Refused(u8),
 }
 
-#[derive(Drop)]
+#[derive(Clone, Copy)]
 pub enum FractionAnswer {
     Is(f64),
     Refused(u8),
 }
 
-#[derive(Drop)]
+#[derive(Clone, Copy)]
 pub enum DeadEnd {
     At(Cell),
     Nowhere,
     Refused(u8),
 }
 
-#[derive(Drop)]
+#[derive(Clone, Copy)]
 pub enum Next {
     Taken(ForcedPosition),
     Nothing,
@@ -195,26 +196,26 @@ pub enum Next {
 }
 
 // A call that writes lent memory and answers no more than that it has.
-#[derive(Drop)]
+#[derive(Clone, Copy)]
 pub enum Written {
     Done,
     Refused(u8),
 }
 
-#[derive(Drop)]
+#[derive(Clone, Copy)]
 pub enum LayAnswer {
     Laid,
     Refused(u8),
 }
 
-#[derive(Drop)]
+#[derive(Clone, Copy)]
 pub enum LiftAnswer {
     Lifted,
     Refused(u8),
 }
 
 // The offset of the widened panel.
-#[derive(Drop)]
+#[derive(Clone, Copy)]
 pub enum WidenAnswer {
     Widened(Offset),
     Refused(u8),
@@ -222,7 +223,7 @@ pub enum WidenAnswer {
 
 // How a forced run ended: with no entry left, with its budget spent, or with more places than its queue has room for. The first number
 // is that of the entries taken, the second that of those laid.
-#[derive(Drop)]
+#[derive(Clone, Copy)]
 pub enum RunAnswer {
     Done(usize, usize),
     Spent(usize, usize),
@@ -232,26 +233,26 @@ pub enum RunAnswer {
 
 // An enum holds no array, so these stand beside the number; refused is 0 where the call is accepted.
 
-#[derive(Drop)]
+#[derive(Clone, Copy)]
 pub struct ColourList {
     pub refused: u8,
     pub colours: [u8; MAX_COLOURS as usize],
     pub len: usize,
 }
 
-#[derive(Drop)]
+#[derive(Clone, Copy)]
 pub struct ForcedAnswer {
     pub refused: u8,
     pub found: ForcedPositions,
 }
 
-#[derive(Drop)]
+#[derive(Clone, Copy)]
 pub struct Taken {
     pub next: Next,
     pub queue: ForcedPipeline,
 }
 
-#[derive(Drop)]
+#[derive(Clone, Copy)]
 pub struct Grown {
     pub answer: Written,
     pub queue: ForcedPipeline,

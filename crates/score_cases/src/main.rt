@@ -1,5 +1,7 @@
 // Document 01's float cases and the refusals of the five float calls, on the compiled code. A float is printed by its bits, sixteen
 // hexadecimal digits: 3ff0.. is 1.0, 3fe0.. 0.5, 3fd0.. 0.25. "Chequer" is the two tiles of the listing program's sample.
+#![tactic(auto)]
+
 use libc::STDOUT_FILENO;
 use rules::{Offset, Span, World, Written};
 

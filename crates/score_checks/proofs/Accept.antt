@@ -12,7 +12,7 @@ use Rattle.base.proofs.Chain.{Passes, all_pass}
 use Rattle.check_sizes.proofs.Sides.{long}
 use Rattle.rules.specs.Tests.{board_sides, tile_number_fits, none_above}
 use Rattle.rules.specs.Floats.{is_finite, all_are}
-use Rattle.rules.specs.Scores.{counted_checks, score_checks, lay_score_checks, span_score_checks, whole_score_checks}
+use Rattle.rules.specs.Scores.{counted_checks, score_checks, lay_score_checks, lift_score_checks, whole_score_checks}
 use Rattle.rules.specs.declared.World.{World}
 use Rattle.rules.specs.declared.Offset.{Offset}
 use Rattle.rules.specs.declared.Span.{Span}
@@ -57,9 +57,9 @@ module _ (scores : List Float) (counts : List ℕ) (rows cols tiles : ℕ) where
     pub cols-end : cs.1 ≤ cols
     pub scored : ScoresPass
 
-  pub spans-pass : (rs cs : Span) → refusal (span_score_checks scores counts rows cols tiles rs cs) ≡ 0 → SpansPass rs cs
+  pub spans-pass : (rs cs : Span) → refusal (lift_score_checks scores counts rows cols tiles rs cs) ≡ 0 → SpansPass rs cs
   spans-pass rs cs e =
-      let h = all_pass (span_score_checks scores counts rows cols tiles rs cs) refl e in
+      let h = all_pass (lift_score_checks scores counts rows cols tiles rs cs) refl e in
       record {
         sides = search;
         rows_end = leb-true rs.1 rows (search);

@@ -1,9 +1,11 @@
 // The checks of the score calls: of the planes and the number of tiles, of the old scores where some of them stay, and of the spans' ends.
 // Each function answers the refusal's number, 0 where there is none.
+#![tactic(auto)]
+
 ghost use Rattle.std.specs.Prelude.{◌≡◌, true};
 ghost use Rattle.base.specs.Refusal.{refusal};
 ghost use Rattle.rules.specs.Tests.{board_sides};
-ghost use Rattle.rules.specs.Scores.{counted_checks, score_checks, span_score_checks};
+ghost use Rattle.rules.specs.Scores.{counted_checks, score_checks, lift_score_checks};
 ghost use Rattle.rules.specs.Promises.{before};
 
 use rules::Span;
@@ -50,7 +52,7 @@ pub fn spans_refused(
     rowspan: Span,
     colspan: Span,
 ) -> u8
-    ensures { result ≡ refusal (span_score_checks (before scores) (before counts) rows cols tiles rowspan colspan) }
+    ensures { result ≡ refusal (lift_score_checks (before scores) (before counts) rows cols tiles rowspan colspan) }
 {
     if !check_sizes::board_sides(rows, cols) {
         return rules::SHAPE;

@@ -1,5 +1,7 @@
 // Document 01, "Weights, counts, scores": the mean of the fractions of the box of one cell, squared or not. Every float step is one rounded
 // operation, in the order in which the text takes them.
+#![tactic(auto)]
+
 ghost use Rattle.std.specs.Prelude.{◌≡◌, true, ◌-◌, ◌<◌, ◌≤◌, length};
 ghost use Rattle.base.specs.Tables.{fold};
 ghost use Rattle.rules.specs.Tests.{tile_number_fits};

@@ -6,7 +6,7 @@ use mathlib.Core.Bool.{true}
 use mathlib.Core.List.{List}
 use lib.Ieee.{Float}
 use Rattle.rules.specs.Floats.{no_nan, all_are}
-use Rattle.rules.specs.Scores.{fraction, in_spans, plain_scores, whole_scores, span_score_checks, whole_score_checks}
+use Rattle.rules.specs.Scores.{fraction, lift_falls, plain_scores, whole_scores, lift_score_checks, whole_score_checks}
 use Rattle.rules.specs.Promises.{ScoresPlain, ScoresWhole}
 use Rattle.rules.proofs.Answered.{was-written}
 use Rattle.rules.specs.declared.Span.{Span}
@@ -18,10 +18,10 @@ module _ (scores : List Float) (counts : List ℕ) (rows cols tiles : ℕ) {l : 
   pub plain-score-near-numbers : (rs cs : Span) → ScoresPlain rows cols counts tiles rs cs scores Done l → all_are no_nan l ≡ true
   unfolding plain_scores
   plain-score-near-numbers rs cs done =
-      let d = was-written (span_score_checks scores counts rows cols tiles rs cs) (plain_scores rows cols counts tiles rs cs scores) scores done in
+      let d = was-written (lift_score_checks scores counts rows cols tiles rs cs) (plain_scores rows cols counts tiles rs cs scores) scores done in
       let s = spans-pass scores counts rows cols tiles rs cs d.0 in
       subst (λ (x : List Float). all_are no_nan x ≡ true) (sym d.1)
-      (scored-numbers (fraction counts tiles) (λ k. fraction-upward counts tiles k s.scored.planes.number) rows cols (in_spans rs cs)
+      (scored-numbers (fraction counts tiles) (λ k. fraction-upward counts tiles k s.scored.planes.number) rows cols (lift_falls rs cs)
       scores s.sides s.scored.planes.scores-long s.scored.finite)
 
   -- the old scores may be anything

@@ -14,7 +14,7 @@ use Rattle.base.proofs.Numbers.{row_lt, col-lt}
 use Rattle.base.proofs.Regions.{is-between}
 use Rattle.base.proofs.Tabled.{tab-ext, get_d-tab}
 use Rattle.rules.specs.Tests.{board_sides}
-use Rattle.rules.specs.Scores.{fraction, score_of, in_spans, lay_falls, scored, lay_scores, plain_scores, whole_scores}
+use Rattle.rules.specs.Scores.{fraction, score_of, lift_falls, lay_falls, scored, lay_scores, plain_scores, whole_scores}
 use Rattle.rules.specs.declared.World.{World}
 use Rattle.rules.specs.declared.Offset.{Offset}
 use Rattle.rules.specs.declared.Span.{Span}
@@ -39,12 +39,12 @@ module _ (scores : List Float) (counts : List ℕ) (rows cols tiles : ℕ) (side
       rw (is-between 0 rows (k / cols) (omega arith) (row_lt k rows cols wide h), is-between 0 cols (k % cols) (omega arith) (col-lt k cols wide)))
     where
       cell : ℕ → Float
-      cell k = pick (in_spans (up_to rows) (up_to cols) (k / cols) (k % cols)) (score_of rows cols (fraction counts tiles) k) (get_or scores k nan)
+      cell k = pick (lift_falls (up_to rows) (up_to cols) (k / cols) (k % cols)) (score_of rows cols (fraction counts tiles) k) (get_or scores k nan)
 
   pub whole-scored : region_scored false counts tiles cols (up_to rows) (up_to cols) scores ≡ whole_scores rows cols counts tiles
   unfolding plain_scores term_of
   whole-scored =
-      region-scored scores counts rows cols tiles sides long false (up_to rows) (up_to cols) (in_spans (up_to rows) (up_to cols)) (λ r c r< c<. refl) ∙ near-whole
+      region-scored scores counts rows cols tiles sides long false (up_to rows) (up_to cols) (lift_falls (up_to rows) (up_to cols)) (λ r c r< c<. refl) ∙ near-whole
 
   -- a cell that falls to the lay score gets its plain score by it
   pub lay-scale : (w : World) (o : Offset) (k : ℕ) → k < rows * cols → lay_falls rows cols w o (k / cols) (k % cols) ≡ true

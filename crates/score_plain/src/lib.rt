@@ -1,5 +1,7 @@
 // Document 02, request 4: the plain score, the mean of the unsquared fractions of a cell's box, for the cells of two spans and for the whole
 // board. The checks come first; a refused call changes nothing.
+#![tactic(auto)]
+
 ghost use Rattle.std.specs.Prelude.{◌≡◌};
 ghost use Rattle.base.specs.Refusal.{refusal};
 ghost use Rattle.rules.specs.Scores.{whole_score_checks};

@@ -14,7 +14,7 @@ use Rattle.base.proofs.Regions.{is-between, between-low, between-high}
 use Rattle.base.proofs.Numbers.{row_lt, col-lt}
 use Rattle.base.proofs.Tabled.{tab-ext}
 use Rattle.rules.specs.Tests.{board_sides, tile_number_fits}
-use Rattle.rules.specs.Scores.{in_spans, scored}
+use Rattle.rules.specs.Scores.{lift_falls, scored}
 use Rattle.rules.specs.declared.Span.{Span}
 use Rattle.check_sizes.proofs.Sides.{board-cols}
 use Rattle.score_mean.specs.Box.{term_of, score_at}
@@ -30,7 +30,7 @@ same-between from to start end x there back =
     (λ e. let h = back (between-low start end x e) (between-high start end x e) in is-between from to x h.0 h.1)
 
 module _ (scores : List Float) (counts : List ℕ) (rows cols tiles : ℕ) (sides : board_sides rows cols ≡ true) (long : length scores ≡ rows * cols) where
-  pub region-scored : (squared : Bool) (rs cs : Span) (falls : ℕ → ℕ → Bool) → ((r c : ℕ) → r < rows → c < cols → in_spans rs cs r c ≡ falls r c)
+  pub region-scored : (squared : Bool) (rs cs : Span) (falls : ℕ → ℕ → Bool) → ((r c : ℕ) → r < rows → c < cols → lift_falls rs cs r c ≡ falls r c)
       → region_scored squared counts tiles cols rs cs scores ≡ scored rows cols falls (term_of squared counts tiles) scores
   unfolding region_scored over_region scored score_at
   region-scored squared rs cs falls same =

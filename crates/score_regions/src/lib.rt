@@ -1,4 +1,6 @@
 // The scores of the cells of two spans by the rule alone, the checks made, and the cells that the targets of a lay write.
+#![tactic(auto)]
+
 ghost use Rattle.std.specs.Prelude.{◌≡◌, true, ◌+◌, ◌*◌, ◌≤◌, length};
 ghost use Rattle.std.specs.Float.{nan};
 ghost use Rattle.base.specs.Regions.{over_row};

@@ -8,7 +8,7 @@ use native.Mathlib.Omega.{arith}
 use lib.ListN.{length}
 use lib.Ieee.{Float}
 use Rattle.rules.specs.Tests.{board_sides}
-use Rattle.rules.specs.Scores.{in_span, in_spans, scored}
+use Rattle.rules.specs.Scores.{in_span, lift_falls, scored}
 use Rattle.rules.specs.declared.Span.{Span}
 use Rattle.score_mean.specs.Box.{term_of}
 use Rattle.score_regions.specs.Region.{region_scored}
@@ -21,7 +21,7 @@ ordered-falls s x = same-between _ _ _ _ x (λ a b. (omega arith, b)) (λ a b. (
 
 pub spans-scored : (scores : List Float) (counts : List ℕ) (rows cols tiles : ℕ) → board_sides rows cols ≡ true → length scores ≡ rows * cols
     → (squared : Bool) (rs cs : Span)
-    → region_scored squared counts tiles cols (ordered_span rs) (ordered_span cs) scores ≡ scored rows cols (in_spans rs cs) (term_of squared counts tiles) scores
+    → region_scored squared counts tiles cols (ordered_span rs) (ordered_span cs) scores ≡ scored rows cols (lift_falls rs cs) (term_of squared counts tiles) scores
 spans-scored scores counts rows cols tiles sides long squared rs cs =
-    region-scored scores counts rows cols tiles sides long squared (ordered_span rs) (ordered_span cs) (in_spans rs cs)
+    region-scored scores counts rows cols tiles sides long squared (ordered_span rs) (ordered_span cs) (lift_falls rs cs)
     (λ r c _ _. rw (ordered-falls rs r, ordered-falls cs c))

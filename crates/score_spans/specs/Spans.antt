@@ -1,6 +1,6 @@
 -- A score of each cell of two spans, squared or plain: what the lift score and the plain score share.
 use Rattle.std.specs.Prelude.{ℕ, min, Bool, List, Float}
-use Rattle.rules.specs.Scores.{in_spans, scored, span_score_checks}
+use Rattle.rules.specs.Scores.{lift_falls, scored, lift_score_checks}
 use Rattle.rules.specs.Promises.{Writes}
 use Rattle.rules.specs.declared.Span.{Span}
 use Rattle.rules.specs.declared.Written.{Written}
@@ -12,4 +12,4 @@ ordered_span s = record { 0 = min s.0 s.1; 1 = s.1 }
 
 abbrev pub ScoresSpans : Bool → ℕ → ℕ → List ℕ → ℕ → Span → Span → List Float → Written → List Float → Type 0
 ScoresSpans squared rows cols counts tiles rowspan colspan old =
-    Writes (span_score_checks old counts rows cols tiles rowspan colspan) (scored rows cols (in_spans rowspan colspan) (term_of squared counts tiles) old) old
+    Writes (lift_score_checks old counts rows cols tiles rowspan colspan) (scored rows cols (lift_falls rowspan colspan) (term_of squared counts tiles) old) old

@@ -1,4 +1,6 @@
 // What the lift score and the plain score share: their checks, and a score of each cell of two spans.
+#![tactic(auto)]
+
 ghost use Rattle.std.specs.Prelude.{◌≡◌};
 ghost use Rattle.rules.specs.Promises.{before, after};
 ghost use Rattle.score_spans.specs.Spans.{ordered_span, ScoresSpans};

@@ -26,7 +26,7 @@ use Rattle.base.proofs.Tabled.{length-tab, get_d-tab, tab-ext, fold-append}
 use Rattle.rules.specs.Tests.{tiles_in}
 use Rattle.rules.specs.Floats.{zero64, over, float_of}
 use Rattle.rules.specs.Grid.{Kind, flat, gap}
-use Rattle.rules.specs.Scores.{fraction, box_has, box_cell, box_cells, plus_term, mean_of, score_of, in_spans, scored, plain_scores, whole_scores}
+use Rattle.rules.specs.Scores.{fraction, box_has, box_cell, box_cells, plus_term, mean_of, score_of, lift_falls, scored, plain_scores, whole_scores}
 use Rattle.rules.specs.Places.{cell_of}
 use Rattle.rules.specs.Probabilities.{region_of}
 use Rattle.rules.specs.Board.{Panel, entry_in, Board, counts_of, board_of}
@@ -74,7 +74,7 @@ module _ (f g : ℕ → Float) where
 module _ (rows cols n : ℕ) (before after : List ℕ) (rs cs : Span) where
   -- the score of a cell that the spans don't have is what it was
   abbrev Others : Type 0
-  Others = (k : ℕ) → k < rows * cols → in_spans rs cs (k / cols) (k % cols) ≡ false → score_of rows cols (fraction before n) k ≡ score_of rows cols (fraction after n) k
+  Others = (k : ℕ) → k < rows * cols → lift_falls rs cs (k / cols) (k % cols) ≡ false → score_of rows cols (fraction before n) k ≡ score_of rows cols (fraction after n) k
 
   pub rest-stays : Others → plain_scores rows cols after n rs cs (whole_scores rows cols before n) ≡ whole_scores rows cols after n
   unfolding plain_scores whole_scores scored
@@ -82,7 +82,7 @@ module _ (rows cols n : ℕ) (before after : List ℕ) (rs cs : Span) where
       ap (λ (m : ℕ). tab m cell) (length-tab (rows * cols) old)
       ∙ tab-ext (rows * cols) cell (score_of rows cols (fraction after n))
       (λ k k<.
-      by-test (in_spans rs cs (k / cols) (k % cols))
+      by-test (lift_falls rs cs (k / cols) (k % cols))
       (λ e. rw e)
       (λ e. rw (e, get_d-tab (rows * cols) old k nan k<) (others k k< e)))
     where
@@ -90,7 +90,7 @@ module _ (rows cols n : ℕ) (before after : List ℕ) (rs cs : Span) where
       old = score_of rows cols (fraction before n)
 
       cell : ℕ → Float
-      cell k = pick (in_spans rs cs (k / cols) (k % cols)) (score_of rows cols (fraction after n) k) (get_or (tab (rows * cols) old) k nan)
+      cell k = pick (lift_falls rs cs (k / cols) (k % cols)) (score_of rows cols (fraction after n) k) (get_or (tab (rows * cols) old) k nan)
 
 -- ---- round a cell that changes
 
@@ -108,7 +108,7 @@ box_in rows cols r c i has =
 
 -- spans that have every cell at most two rows and columns away from cell k
 abbrev HasRound : ℕ → ℕ → ℕ → Span → Span → Type 0
-HasRound rows cols k rs cs = (r c : ℕ) → r < rows → c < cols → gap r (k / cols) ≤ 2 → gap c (k % cols) ≤ 2 → in_spans rs cs r c ≡ true
+HasRound rows cols k rs cs = (r c : ℕ) → r < rows → c < cols → gap r (k / cols) ≤ 2 → gap c (k % cols) ≤ 2 → lift_falls rs cs r c ≡ true
 
 module _ (rows cols : ℕ) (tiles p : List ℕ) (k v : ℕ) (long : length p ≡ rows * cols) where
   -- the counts before and after
@@ -151,7 +151,7 @@ module _ (rows cols : ℕ) (tiles p : List ℕ) (k v : ℕ) (long : length p ≡
       let r< : i / cols < rows = row_lt i rows cols wide i< in
       let c< : i % cols < cols = col-lt i cols wide in
       mean-ext (fraction old n) (fraction new n) rows cols (i / cols) (i % cols)
-      (box-stays n (i / cols) (i % cols) r< c< (λ a b. never (in_spans rs cs (i / cols) (i % cols)) (round (i / cols) (i % cols) r< c< a b) out)))
+      (box-stays n (i / cols) (i % cols) r< c< (λ a b. never (lift_falls rs cs (i / cols) (i % cols)) (round (i / cols) (i % cols) r< c< a b) out)))
 
 -- ---- after a call
 

@@ -6,7 +6,7 @@ use mathlib.Core.Bool.{true}
 use mathlib.Core.List.{List}
 use lib.Ieee.{Float}
 use Rattle.rules.specs.Floats.{no_nan, all_are}
-use Rattle.rules.specs.Scores.{fraction, squared_fraction, lay_falls, in_spans, lay_scores, lift_scores, lay_score_checks, span_score_checks}
+use Rattle.rules.specs.Scores.{fraction, squared_fraction, lay_falls, lift_falls, lay_scores, lift_scores, lay_score_checks, lift_score_checks}
 use Rattle.rules.specs.Promises.{ScoresLay, ScoresLift}
 use Rattle.rules.proofs.Answered.{was-written}
 use Rattle.rules.specs.declared.World.{World}
@@ -29,8 +29,8 @@ module _ (scores : List Float) (counts : List ℕ) (rows cols tiles : ℕ) {l : 
   pub lift-score-numbers : (rs cs : Span) → ScoresLift rows cols counts tiles rs cs scores Done l → all_are no_nan l ≡ true
   unfolding lift_scores
   lift-score-numbers rs cs done =
-      let d = was-written (span_score_checks scores counts rows cols tiles rs cs) (lift_scores rows cols counts tiles rs cs scores) scores done in
+      let d = was-written (lift_score_checks scores counts rows cols tiles rs cs) (lift_scores rows cols counts tiles rs cs scores) scores done in
       let s = spans-pass scores counts rows cols tiles rs cs d.0 in
       subst (λ (x : List Float). all_are no_nan x ≡ true) (sym d.1)
-      (scored-numbers (squared_fraction counts tiles) (λ k. squared-upward counts tiles k s.scored.planes.number) rows cols (in_spans rs cs)
+      (scored-numbers (squared_fraction counts tiles) (λ k. squared-upward counts tiles k s.scored.planes.number) rows cols (lift_falls rs cs)
       scores s.sides s.scored.planes.scores-long s.scored.finite)

@@ -1,5 +1,7 @@
 // Document 01, "Weights, counts, scores": the score of a lay and that of a lift, each the mean of the fractions of nine regions, their
 // checks first. A refused call changes nothing.
+#![tactic(auto)]
+
 ghost use Rattle.std.specs.Prelude.{◌≡◌};
 ghost use Rattle.base.specs.Refusal.{refusal};
 ghost use Rattle.rules.specs.Scores.{lay_score_checks};

@@ -1,1 +1,2 @@
 // Demand 3 with forced runs, as theorems: they stand in proofs/, the definitions that they speak of in specs/. It has no code of its own.
+#![tactic(auto)]

@@ -1,5 +1,7 @@
 // Document 01's cases of tiles, and the refusals of extraction and membership, on the compiled code: what this prints is held to the
 // file `stdout`. Each store starts as 77 everywhere and is printed whole, so what was not written shows.
+#![tactic(auto)]
+
 use rules::{SetAnswer, TileNumber};
 
 fn wide(byte: u8) -> u64 {

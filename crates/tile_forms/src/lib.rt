@@ -1,5 +1,7 @@
 // Document 01, "Tiles": the windows of a sample and their forms, turned and mirrored. A tile is nine bytes, row by row.
 // The text's spatial/tiles.rs has them in `extract_tiles`, `rotate_90` and `reflect`.
+#![tactic(auto)]
+
 ghost use Rattle.std.specs.Prelude.{◌≡◌, ◌+◌, ◌<◌, ◌≤◌};
 ghost use Rattle.rules.specs.Bounds.{max_sample_side, max_tiles};
 ghost use Rattle.rules.specs.Promises.{before};

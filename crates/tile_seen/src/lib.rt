@@ -1,6 +1,8 @@
 // Whether a tile is among those kept: the text's sorted set `seen`, as buckets of chained tiles over the caller's list. `heads` has for
 // each bucket one more than the number of its last tile, `nexts` for each tile one more than that of the last before it in its bucket; 0:
 // none.
+#![tactic(auto)]
+
 ghost use Rattle.std.specs.Prelude.{◌≡◌, ◌<◌, get_or};
 ghost use Rattle.rules.specs.Bounds.{max_tiles};
 ghost use Rattle.rules.specs.Tests.{tiles_in};
