@@ -24,7 +24,7 @@ pub fn lay(
     offset: Offset,
     colour: u32,
 ) -> LayAnswer
-    ensures { Lays (panel rows cols (before tiles) offset) count place colour
+    ensures { Lays (panel rows cols tiles.now offset) count place colour
         (board_before pieces weights counts) result (board_after pieces weights counts) }
 {
     let no = lengths_refused(pieces, weights, counts, rows, cols);
@@ -64,7 +64,7 @@ pub fn lift(
     place: World,
     offset: Offset,
 ) -> LiftAnswer
-    ensures { Lifts (panel rows cols (before tiles) offset) count place
+    ensures { Lifts (panel rows cols tiles.now offset) count place
         (board_before pieces weights counts) result (board_after pieces weights counts) }
 {
     let no = lengths_refused(pieces, weights, counts, rows, cols);

@@ -25,7 +25,7 @@ fn board_refused(
     tiles: &[u8],
     count: u32,
 ) -> u8
-    ensures { (offset : Offset) → result ≡ refusal (board_checks (panel rows cols (before tiles) offset) count (board_before pieces weights counts)) }
+    ensures { (offset : Offset) → result ≡ refusal (board_checks (panel rows cols tiles.now offset) count (board_before pieces weights counts)) }
 {
     let no = lengths_refused(pieces, weights, counts, rows, cols);
     if no != 0 {
@@ -51,7 +51,7 @@ fn run_refused(
     bounds: GenerationBounds,
     budget: usize,
 ) -> u8
-    ensures { result ≡ refusal (run_checks (panel rows cols (before tiles) offset) count (board_before pieces weights counts) place bounds budget) }
+    ensures { result ≡ refusal (run_checks (panel rows cols tiles.now offset) count (board_before pieces weights counts) place bounds budget) }
 {
     if budget > rules::MAX_BUDGET {
         return rules::SHAPE;
@@ -85,7 +85,7 @@ pub fn forced_run(
     bounds: GenerationBounds,
     budget: usize,
 ) -> RunAnswer
-    ensures { RunsOut (panel rows cols (before tiles) offset) count place bounds budget
+    ensures { RunsOut (panel rows cols tiles.now offset) count place bounds budget
         (board_before pieces weights counts) result (board_after pieces weights counts) }
 {
     let refused = run_refused(

@@ -25,7 +25,7 @@ pub fn lay_at(
     colour: u32,
 )
     requires { (Movable (board pieces.old weights.old counts.old) rows cols tiles.now cell rowspan colspan) × (colour ≤ max_colours) }
-    ensures { board_after pieces weights counts ≡ laid (flat rows cols) (before tiles) (board_before pieces weights counts) (entry_of cols cell) colour }
+    ensures { board_after pieces weights counts ≡ laid (flat rows cols) tiles.now (board_before pieces weights counts) (entry_of cols cell) colour }
 {
     let k = cell.0 * cols + cell.1;
     pieces[k] = colour + 1;
@@ -45,7 +45,7 @@ pub fn lift_at(
     colspan: Span,
 )
     requires { Movable (board pieces.old weights.old counts.old) rows cols tiles.now cell rowspan colspan }
-    ensures { board_after pieces weights counts ≡ lifted (flat rows cols) (before tiles) (board_before pieces weights counts) (entry_of cols cell) }
+    ensures { board_after pieces weights counts ≡ lifted (flat rows cols) tiles.now (board_before pieces weights counts) (entry_of cols cell) }
 {
     let k = cell.0 * cols + cell.1;
     pieces[k] = rules::BARE_PIECE;

@@ -55,7 +55,7 @@ pub fn contents_refused(
     n: usize,
 ) -> u8
     requires { n ≤ max_tiles }
-    ensures { result ≡ refusal (board_contents (before tiles) count (board_before pieces weights counts) n) }
+    ensures { result ≡ refusal (board_contents tiles.now count (board_before pieces weights counts) n) }
 {
     let no = colours_refused(tiles, count, pieces);
     if no != 0 {
@@ -73,7 +73,7 @@ pub fn contents_refused(
 // TYPE and TAKEN of a lay on a cell of the board, 0 where both pass.
 pub fn laying_refused(pieces: &[u32], cols: usize, cell: Cell, count: u32, colour: u32) -> u8
     requires { (entry_of cols cell < length pieces.now) × (length pieces.now ≤ max_cells) }
-    ensures { result ≡ refusal (laying_checks (before pieces) (entry_of cols cell) count colour) }
+    ensures { result ≡ refusal (laying_checks pieces.now (entry_of cols cell) count colour) }
 {
     if colour < 1 {
         return rules::TYPE;
@@ -91,7 +91,7 @@ pub fn laying_refused(pieces: &[u32], cols: usize, cell: Cell, count: u32, colou
 // BARE of a lift on a cell of the board, 0 where a piece stands there.
 pub fn lifting_refused(pieces: &[u32], cols: usize, cell: Cell) -> u8
     requires { (entry_of cols cell < length pieces.now) × (length pieces.now ≤ max_cells) }
-    ensures { result ≡ refusal (lifting_checks (before pieces) (entry_of cols cell)) }
+    ensures { result ≡ refusal (lifting_checks pieces.now (entry_of cols cell)) }
 {
     let k = cell.0 * cols + cell.1;
     if rules::BARE_PIECE < pieces[k] {

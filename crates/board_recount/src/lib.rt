@@ -29,7 +29,7 @@ fn count_after(
     old: u32,
 ) -> u32
     requires { (Countable pieces.now rows cols tiles.now) × (CellOn rows cols row col) }
-    ensures { result ≡ recounted_by (flat rows cols) cols (before tiles) (before pieces) row col old }
+    ensures { result ≡ recounted_by (flat rows cols) cols tiles.now pieces.now row col old }
 {
     if rows <= row + 2 {
         return old;
@@ -51,7 +51,7 @@ fn recount_row(
     left: usize,
 )
     requires { (Countable pieces.now rows cols tiles.now) × (row < rows) × (left + length part.old ≤ cols) }
-    ensures { after part ≡ over_row 0 (recounted_by (flat rows cols) cols (before tiles) (before pieces)) row left (before part) }
+    ensures { after part ≡ over_row 0 (recounted_by (flat rows cols) cols tiles.now pieces.now) row left (before part) }
 {
     let mut j = 0;
     while j < part.len() {
@@ -71,7 +71,7 @@ pub fn recount_near(
     colspan: Span,
 )
     requires { (InSpans counts.old rows cols rowspan colspan) × (Countable pieces.now rows cols tiles.now) }
-    ensures { after counts ≡ recounted_in (flat rows cols) cols (before tiles) (before pieces) rowspan colspan (before counts) }
+    ensures { after counts ≡ recounted_in (flat rows cols) cols tiles.now pieces.now rowspan colspan (before counts) }
 {
     let mut row = rowspan.0;
     while row < rowspan.1 {
@@ -93,7 +93,7 @@ pub fn recount_near(
 // COUNT, and CELL of all that is read, 0 where all pass; n is the number of tiles.
 fn contents_refused(counts: &[u32], pieces: &[u32], tiles: &[u8], count: u32, n: usize) -> u8
     requires { n ≤ max_tiles }
-    ensures { result ≡ refusal (counted_contents (before tiles) count (before pieces) (before counts) n) }
+    ensures { result ≡ refusal (counted_contents tiles.now count pieces.now counts.now n) }
 {
     let no = colours_refused(tiles, count, pieces);
     if no != 0 {
@@ -114,7 +114,7 @@ fn planes_refused(
     tiles: &[u8],
     count: u32,
 ) -> u8
-    ensures { result ≡ refusal (counted_planes (before counts) (before pieces) rows cols (before tiles) count) }
+    ensures { result ≡ refusal (counted_planes counts.now pieces.now rows cols tiles.now count) }
 {
     if !board_sides(rows, cols) {
         return rules::SHAPE;
@@ -143,7 +143,7 @@ pub fn recount_feasibility(
     place: World,
     offset: Offset,
 ) -> Written
-    ensures { Recounts (panel rows cols (before tiles) offset) count place (before pieces) (before counts) result (after counts) }
+    ensures { Recounts (panel rows cols tiles.now offset) count place pieces.now (before counts) result (after counts) }
 {
     let no = planes_refused(counts, pieces, rows, cols, tiles, count);
     if no != 0 {

@@ -43,7 +43,7 @@ fn still_forced(
 ) -> bool
     requires { Ready pieces.now rows cols tiles.now count × (on_board rows cols entry.coordinates offset ≡ true) }
     ensures { (weights counts : List ℕ)
-        → result ≡ still_forced (panel rows cols (before tiles) offset) count (board (before pieces) weights counts) entry }
+        → result ≡ still_forced (panel rows cols tiles.now offset) count (board pieces.now weights counts) entry }
 {
     let place = entry.coordinates;
     let cell = cell_of(place, offset);
@@ -67,7 +67,7 @@ fn lay_entry(
 )
     requires { Laying (panel rows cols tiles.now offset) (board pieces.old weights.old counts.old) entry }
     ensures { board_after pieces weights counts
-        ≡ laid (flat rows cols) (before tiles) (board_before pieces weights counts) (entry_in (panel rows cols (before tiles) offset) entry.coordinates) entry.colour }
+        ≡ laid (flat rows cols) tiles.now (board_before pieces weights counts) (entry_in (panel rows cols tiles.now offset) entry.coordinates) entry.colour }
 {
     let place = entry.coordinates;
     let SpanAnswer::Spans(rowspan, colspan) = near_spans(rows, cols, place, offset) else {
@@ -98,8 +98,8 @@ fn queue_round(
     requires { Roundable pieces.now rows cols tiles.now count place
         × Ring (slots queuerows.old queuecols.old queuecolours.old) state.first state.len }
     ensures { (result.taken ≡ state.taken) × (result.laid ≡ state.laid)
-        × ((s : Run) → s.board.pieces ≡ before pieces → Shows s s.board (slots_before queuerows queuecols queuecolours) state
-        → Shows (queueing (panel rows cols (before tiles) offset) count bounds place s) s.board (slots_after queuerows queuecols queuecolours) result) }
+        × ((s : Run) → s.board.pieces ≡ pieces.now → Shows s s.board (slots_before queuerows queuecols queuecolours) state
+        → Shows (queueing (panel rows cols tiles.now offset) count bounds place s) s.board (slots_after queuerows queuecols queuecolours) result) }
 {
     let found = forced_round(pieces, rows, cols, tiles, count, place, offset, bounds);
     let CountAnswer::Is(len) = add_positions(
@@ -142,8 +142,8 @@ fn begin(
     queuecolours: &mut [u32; rules::QUEUE_ROOM],
 ) -> Progress
     requires { Roundable pieces.now rows cols tiles.now count place × Shaped (slots queuerows.old queuecols.old queuecolours.old) }
-    ensures { (result.taken ≡ 0) × (result.laid ≡ 0) × ((b : Board) → b.pieces ≡ before pieces
-        → Shows (begun (panel rows cols (before tiles) offset) count bounds b place) b (slots_after queuerows queuecols queuecolours) result) }
+    ensures { (result.taken ≡ 0) × (result.laid ≡ 0) × ((b : Board) → b.pieces ≡ pieces.now
+        → Shows (begun (panel rows cols tiles.now offset) count bounds b place) b (slots_after queuerows queuecols queuecolours) result) }
 {
     let empty = Progress {
         first: 0,
@@ -203,7 +203,7 @@ fn turn(
         (slots queuerows.old queuecols.old queuecolours.old) state }
     ensures { (result.taken ≡ state.taken + 1) × (result.laid ≤ state.laid + 1)
         × ((s : Run) → Shows s (board_before pieces weights counts) (slots_before queuerows queuecols queuecolours) state
-        → Shows (stepped (panel rows cols (before tiles) offset) count bounds s) (board_after pieces weights counts) (slots_after queuerows queuecols queuecolours) result) }
+        → Shows (stepped (panel rows cols tiles.now offset) count bounds s) (board_after pieces weights counts) (slots_after queuerows queuecols queuecolours) result) }
 {
     let entry = entry_in(queuerows, queuecols, queuecolours, state.first);
     if !still_forced(pieces, rows, cols, tiles, count, offset, entry) {
@@ -270,7 +270,7 @@ pub fn run_out(
 ) -> RunAnswer
     requires { Going (panel rows cols tiles.now offset) count (board pieces.old weights.old counts.old) [] 0
         × (on_wall place ≡ true) × (budget ≤ max_budget) }
-    ensures { Ends (panel rows cols (before tiles) offset) count place bounds budget
+    ensures { Ends (panel rows cols tiles.now offset) count place bounds budget
         (board_before pieces weights counts) result (board_after pieces weights counts) }
 {
     let mut queuerows = [0i32; rules::QUEUE_ROOM];

@@ -29,7 +29,7 @@ fn near_span(x: usize, side: usize) -> Span
 fn added_by(pieces: &[u32], cols: usize, cell: Cell, row: usize, col: usize) -> u32
     requires in_row { InRow pieces.now cols row }
     requires col_lt_cols { col < cols }
-    ensures { result ≡ added_by (before pieces) cols cell row col }
+    ensures { result ≡ added_by pieces.now cols cell row col }
 {
     let k = row * cols + col;
     if pieces[k] <= rules::BARE_PIECE {
@@ -42,7 +42,7 @@ fn added_by(pieces: &[u32], cols: usize, cell: Cell, row: usize, col: usize) -> 
 fn row_adds(pieces: &[u32], cols: usize, cell: Cell, row: usize, colspan: Span) -> u32
     requires in_row { InRow pieces.now cols row }
     requires colspan_le_cols { colspan.1 ≤ cols }
-    ensures { result ≡ row_adds (before pieces) cols cell colspan row }
+    ensures { result ≡ row_adds pieces.now cols cell colspan row }
 {
     let mut sum = 0;
     let mut col = colspan.0;
@@ -65,7 +65,7 @@ fn box_adds(
     requires in_board { InBoard pieces.now rows cols }
     requires rowspan_le_rows { rowspan.1 ≤ rows }
     requires colspan_le_cols { colspan.1 ≤ cols }
-    ensures { result ≡ box_adds (before pieces) cols cell rowspan colspan }
+    ensures { result ≡ box_adds pieces.now cols cell rowspan colspan }
 {
     let mut sum = 0;
     let mut row = rowspan.0;
@@ -78,7 +78,7 @@ fn box_adds(
 
 pub fn weight_at(pieces: &[u32], rows: usize, cols: usize, cell: Cell) -> u32
     requires { OnPlane pieces.now rows cols cell }
-    ensures { result ≡ get_or (weights_of (flat rows cols) (before pieces)) (entry_of cols cell) 0 }
+    ensures { result ≡ get_or (weights_of (flat rows cols) pieces.now) (entry_of cols cell) 0 }
 {
     let rowspan = near_span(cell.0, rows);
     let colspan = near_span(cell.1, cols);

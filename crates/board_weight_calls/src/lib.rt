@@ -16,7 +16,7 @@ use rules::{Offset, SpanAnswer, World, Written};
 
 // SHAPE, LENGTH and CELL of a weights plane, 0 where all pass.
 fn weights_refused(weights: &[u32], rows: usize, cols: usize) -> u8
-    ensures { result ≡ refusal (weight_plane_checks (before weights) rows cols) }
+    ensures { result ≡ refusal (weight_plane_checks weights.now rows cols) }
 {
     if !board_sides(rows, cols) {
         return rules::SHAPE;

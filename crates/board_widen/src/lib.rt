@@ -26,7 +26,7 @@ use rules::{Cell, Offset, Pads, Span, WidenAnswer};
 // Pieces keep their wall coordinates; new cells are bare.
 fn move_pieces(widepieces: &mut [u32], pieces: &[u32], rows: usize, cols: usize, pads: Pads)
     requires { Sized rows cols pads (length pieces.now) (length widepieces.old) }
-    ensures { after widepieces ≡ widened_pieces rows cols pads (before pieces) }
+    ensures { after widepieces ≡ widened_pieces rows cols pads pieces.now }
 {
     fill(widepieces, rules::BARE_PIECE);
     lay_rows_u32(widepieces, pieces, rows, cols, pads);
@@ -61,7 +61,7 @@ fn weight_after(
 ) -> u32
     requires weighable { Weighable widepieces.now weights.now rows cols pads }
     requires k_bound { k < new_rows rows pads * new_cols cols pads }
-    ensures { result ≡ weight_after (before widepieces) (before weights) rows cols pads k }
+    ensures { result ≡ weight_after widepieces.now weights.now rows cols pads k }
 {
     let tall = pads.left + rows + pads.right;
     let wide = pads.top + cols + pads.bottom;
@@ -86,7 +86,7 @@ fn move_weights(
     requires weighable { Weighable widepieces.now weights.now rows cols pads }
     requires wideweights_len { length wideweights.old ≡ new_rows rows pads * new_cols cols pads }
     ensures { after wideweights
-        ≡ tab (new_rows rows pads * new_cols cols pads) (weight_after (before widepieces) (before weights) rows cols pads) }
+        ≡ tab (new_rows rows pads * new_cols cols pads) (weight_after widepieces.now weights.now rows cols pads) }
 {
     let mut k = 0;
     while k < wideweights.len() {
@@ -108,7 +108,7 @@ fn count_all(
     requires countable { Countable widepieces.now (new_rows rows pads) (new_cols cols pads) tiles.now }
     requires pads_nonzero { 0 < new_cols cols pads }
     requires widecounts_len { length widecounts.old ≡ new_rows rows pads * new_cols cols pads }
-    ensures { after widecounts ≡ counts_of (flat (new_rows rows pads) (new_cols cols pads)) (before tiles) (before widepieces) }
+    ensures { after widecounts ≡ counts_of (flat (new_rows rows pads) (new_cols cols pads)) tiles.now widepieces.now }
 {
     let tall = pads.left + rows + pads.right;
     let wide = pads.top + cols + pads.bottom;
@@ -140,7 +140,7 @@ pub fn widen(
     count: u32,
     offset: Offset,
 ) -> WidenAnswer
-    ensures { Widens (panel rows cols (before tiles) offset) count pads (board_before pieces weights counts)
+    ensures { Widens (panel rows cols tiles.now offset) count pads (board_before pieces weights counts)
         (board_before widepieces wideweights widecounts) result (board_after widepieces wideweights widecounts) }
 {
     let no = widen_refused(

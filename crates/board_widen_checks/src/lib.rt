@@ -43,7 +43,7 @@ fn held_refused(
     pads: Pads,
 ) -> u8
     requires { (whole_tiles tiles.now ≡ true) × (pads.left ≤ max_board_side) × (pads.top ≤ max_board_side) }
-    ensures { result ≡ refusal (held_checks (before tiles) offset count (board_before pieces weights counts) pads) }
+    ensures { result ≡ refusal (held_checks tiles.now offset count (board_before pieces weights counts) pads) }
 {
     let n = tiles.len() / rules::TILE_CELLS;
     let no = contents_refused(pieces, weights, counts, tiles, count, n);
@@ -69,7 +69,7 @@ fn lent_refused(
     offset: Offset,
 ) -> u8
     requires { (board_sides rows cols ≡ true) × (board_sides (new_rows rows pads) (new_cols cols pads) ≡ true) }
-    ensures { result ≡ refusal (lent_checks (panel rows cols (before tiles) offset) count (board_before pieces weights counts)
+    ensures { result ≡ refusal (lent_checks (panel rows cols tiles.now offset) count (board_before pieces weights counts)
         pads (board_before widepieces wideweights widecounts)) }
 {
     let held = planes_refused(pieces, weights, counts, cells_of(rows, cols));
@@ -106,7 +106,7 @@ pub fn widen_refused(
     count: u32,
     offset: Offset,
 ) -> u8
-    ensures { result ≡ refusal (widen_checks (panel rows cols (before tiles) offset) count (board_before pieces weights counts)
+    ensures { result ≡ refusal (widen_checks (panel rows cols tiles.now offset) count (board_before pieces weights counts)
         pads (board_before widepieces wideweights widecounts)) }
 {
     if !board_sides(rows, cols) {

@@ -17,7 +17,7 @@ pub fn extend_array_2d_u32(
     cols: usize,
     pads: Pads,
 ) -> Written
-    ensures { CopiesWords rows cols pads (before plane) (before target) result (after target) }
+    ensures { CopiesWords rows cols pads plane.now (before target) result (after target) }
 {
     let refused = copy_refused(rows, cols, pads, plane.len(), target.len());
     if refused != 0 {
@@ -36,7 +36,7 @@ pub fn extend_array_2d_f64(
     cols: usize,
     pads: Pads,
 ) -> Written
-    ensures { CopiesFloats rows cols pads (before plane) (before target) result (after target) }
+    ensures { CopiesFloats rows cols pads plane.now (before target) result (after target) }
 {
     let refused = copy_refused(rows, cols, pads, plane.len(), target.len());
     if refused != 0 {

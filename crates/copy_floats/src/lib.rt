@@ -22,7 +22,7 @@ pub fn fill_f64(target: &mut [f64])
 
 fn lay_row_f64(part: &mut [f64], row: &[f64])
     requires { length part.old ≡ length row.now }
-    ensures { after part ≡ before row }
+    ensures { after part ≡ row.now }
 {
     let mut j = 0;
     while j < part.len() {
@@ -33,7 +33,7 @@ fn lay_row_f64(part: &mut [f64], row: &[f64])
 
 pub fn lay_rows_f64(target: &mut [f64], plane: &[f64], rows: usize, cols: usize, pads: Pads)
     requires { Sized rows cols pads (length plane.now) (length target.old) }
-    ensures { after target ≡ rows_laid nan (before plane) rows cols pads (before target) }
+    ensures { after target ≡ rows_laid nan plane.now rows cols pads (before target) }
 {
     let left = pads.left;
     let top = pads.top;

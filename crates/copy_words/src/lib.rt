@@ -20,7 +20,7 @@ pub fn fill_u32(target: &mut [u32])
 
 fn lay_row_u32(part: &mut [u32], row: &[u32])
     requires { length part.old ≡ length row.now }
-    ensures { after part ≡ before row }
+    ensures { after part ≡ row.now }
 {
     let mut j = 0;
     while j < part.len() {
@@ -31,7 +31,7 @@ fn lay_row_u32(part: &mut [u32], row: &[u32])
 
 pub fn lay_rows_u32(target: &mut [u32], plane: &[u32], rows: usize, cols: usize, pads: Pads)
     requires { Sized rows cols pads (length plane.now) (length target.old) }
-    ensures { after target ≡ rows_laid 0 (before plane) rows cols pads (before target) }
+    ensures { after target ≡ rows_laid 0 plane.now rows cols pads (before target) }
 {
     let left = pads.left;
     let top = pads.top;

@@ -38,7 +38,7 @@ pub extern "C" fn desk_fitting_colours(
     across: i32,
     found: &mut [u64],
 ) -> u32
-    ensures { DeskLists (before pieces) rows cols (before tiles) count row col down across (before found) result (after found) }
+    ensures { DeskLists pieces.now rows cols tiles.now count row col down across (before found) result (after found) }
 {
     let listed_at = world_at(row, col);
     let offset = offset_at(down, across);
@@ -63,7 +63,7 @@ pub extern "C" fn desk_lay(
     across: i32,
     colour: u32,
 ) -> u32
-    ensures { DeskLays rows cols (before tiles) count row col down across colour
+    ensures { DeskLays rows cols tiles.now count row col down across colour
         (board_before pieces weights counts) result (board_after pieces weights counts) }
 {
     let laid_at = world_at(row, col);
@@ -88,7 +88,7 @@ pub extern "C" fn desk_lift(
     down: i32,
     across: i32,
 ) -> u32
-    ensures { DeskLifts rows cols (before tiles) count row col down across
+    ensures { DeskLifts rows cols tiles.now count row col down across
         (board_before pieces weights counts) result (board_after pieces weights counts) }
 {
     let lifted_at = world_at(row, col);
@@ -122,7 +122,7 @@ pub extern "C" fn desk_forced_run(
     budget: usize,
     ran: &mut [u64],
 ) -> u32
-    ensures { DeskRuns rows cols (before tiles) count row col down across (bounds_from within (world minrow mincol) (world maxrow maxcol)) budget
+    ensures { DeskRuns rows cols tiles.now count row col down across (bounds_from within (world minrow mincol) (world maxrow maxcol)) budget
         (board_before pieces weights counts) (before ran) result (ran_with (board_after pieces weights counts) (after ran)) }
 {
     let place = world_at(row, col);
@@ -157,7 +157,7 @@ pub extern "C" fn desk_widen(
     across: i32,
     offset: &mut [i32],
 ) -> u32
-    ensures { DeskWidens rows cols (pads_by left right top bottom) (before tiles) count down across (board_before pieces weights counts)
+    ensures { DeskWidens rows cols (pads_by left right top bottom) tiles.now count down across (board_before pieces weights counts)
         (board_before widepieces wideweights widecounts) (before offset) result (larger (board_after widepieces wideweights widecounts) (after offset)) }
 {
     let pads = Pads {
@@ -193,7 +193,7 @@ pub extern "C" fn desk_plain_score(
     cols: usize,
     tiles: usize,
 ) -> u32
-    ensures { DeskScores rows cols (before counts) tiles (before scores) result (after scores) }
+    ensures { DeskScores rows cols counts.now tiles (before scores) result (after scores) }
 {
     let answer = score_plain::plain_score(scores, counts, rows, cols, tiles);
     written(answer)
@@ -211,7 +211,7 @@ pub extern "C" fn desk_plain_score_near(
     colstart: usize,
     colend: usize,
 ) -> u32
-    ensures { DeskScoresNear rows cols (before counts) tiles rowstart rowend colstart colend (before scores) result (after scores) }
+    ensures { DeskScoresNear rows cols counts.now tiles rowstart rowend colstart colend (before scores) result (after scores) }
 {
     let answer = score_plain::plain_score_near(
         scores,

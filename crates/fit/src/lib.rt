@@ -14,7 +14,7 @@ use rules::{Cell, CountAnswer, FractionAnswer, Listing, Offset, World};
 
 // The refusal of pieces and tiles, 0 where there is none.
 pub fn pieces_refused(pieces: &[u32], rows: usize, cols: usize, tiles: &[u8], count: u32) -> u8
-    ensures { result ≡ refusal (pieces_checks (before pieces) rows cols (before tiles) count) }
+    ensures { result ≡ refusal (pieces_checks pieces.now rows cols tiles.now count) }
 {
     if !check_sizes::board_sides(rows, cols) {
         return rules::SHAPE;
@@ -38,7 +38,7 @@ pub fn compute_viable_tiles_at_position(
     place: World,
     offset: Offset,
 ) -> Listing
-    ensures { result ≡ listing flat (before pieces) rows cols (before tiles) count place offset }
+    ensures { result ≡ listing flat pieces.now rows cols tiles.now count place offset }
 {
     let refused = pieces_refused(pieces, rows, cols, tiles, count);
     if refused != 0 {
@@ -73,7 +73,7 @@ pub fn count_fitting(
     count: u32,
     start: Cell,
 ) -> CountAnswer
-    ensures { result ≡ region_count flat (before pieces) rows cols (before tiles) count start }
+    ensures { result ≡ region_count flat pieces.now rows cols tiles.now count start }
 {
     let refused = pieces_refused(pieces, rows, cols, tiles, count);
     if refused != 0 {
@@ -86,7 +86,7 @@ pub fn count_fitting(
 }
 
 fn fraction_refused(counts: &[u32], rows: usize, cols: usize, tiles: usize, cell: Cell) -> u8
-    ensures { result ≡ refusal (fraction_checks (before counts) rows cols tiles cell) }
+    ensures { result ≡ refusal (fraction_checks counts.now rows cols tiles cell) }
 {
     if !check_sizes::board_sides(rows, cols) {
         return rules::SHAPE;
@@ -109,7 +109,7 @@ fn fraction_refused(counts: &[u32], rows: usize, cols: usize, tiles: usize, cell
 // One rounded division.
 fn fraction_of(counts: &[u32], tiles: usize, k: usize) -> f64
     requires { (k < length counts.now) × (tiles ≤ max_tiles) }
-    ensures { result ≡ fraction (before counts) tiles k }
+    ensures { result ≡ fraction counts.now tiles k }
 {
     counts[k] as f64 / tiles as f64
 }
@@ -122,7 +122,7 @@ pub fn get_fraction(
     tiles: usize,
     cell: Cell,
 ) -> FractionAnswer
-    ensures { result ≡ fraction_at (before counts) rows cols tiles cell }
+    ensures { result ≡ fraction_at counts.now rows cols tiles cell }
 {
     let refused = fraction_refused(counts, rows, cols, tiles, cell);
     if refused != 0 {

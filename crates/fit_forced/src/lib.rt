@@ -79,7 +79,7 @@ pub fn only_colour_at(
 ) -> u32
     requires ready { Ready pieces.now rows cols tiles.now count }
     requires cell_on { CellOn rows cols cell.0 cell.1 }
-    ensures { result ≡ only_at (flat rows cols) (before tiles) (before pieces) count (entry_of cols cell) }
+    ensures { result ≡ only_at (flat rows cols) tiles.now pieces.now count (entry_of cols cell) }
 {
     let at = cell.0 * cols + cell.1;
     if pieces[at] > rules::BARE_PIECE {
@@ -104,7 +104,7 @@ fn forced_colour(
     bounds: GenerationBounds,
 ) -> u32
     requires { Ready pieces.now rows cols tiles.now count }
-    ensures { result ≡ forced_colour flat (before pieces) rows cols (before tiles) count place offset bounds }
+    ensures { result ≡ forced_colour flat pieces.now rows cols tiles.now count place offset bounds }
 {
     if !admitted(bounds, place) {
         return 0;
@@ -162,7 +162,7 @@ pub fn forced_round(
     bounds: GenerationBounds,
 ) -> ForcedPositions
     requires { Roundable pieces.now rows cols tiles.now count place }
-    ensures { result ≡ positions_of (forced_round flat (before pieces) rows cols (before tiles) count place offset bounds) }
+    ensures { result ≡ positions_of (forced_round flat pieces.now rows cols tiles.now count place offset bounds) }
 {
     let mut found = no_positions();
     let mut i = 0;
@@ -186,7 +186,7 @@ pub fn forced_refused(
     offset: Offset,
     bounds: GenerationBounds,
 ) -> u8
-    ensures { result ≡ refusal (forced_checks (before pieces) rows cols (before tiles) count place offset bounds) }
+    ensures { result ≡ refusal (forced_checks pieces.now rows cols tiles.now count place offset bounds) }
 {
     let refused = fit::pieces_refused(pieces, rows, cols, tiles, count);
     if refused != 0 {
@@ -213,7 +213,7 @@ pub fn detect_forced_positions(
     offset: Offset,
     bounds: GenerationBounds,
 ) -> ForcedAnswer
-    ensures { result ≡ forced_neighbours flat (before pieces) rows cols (before tiles) count place offset bounds }
+    ensures { result ≡ forced_neighbours flat pieces.now rows cols tiles.now count place offset bounds }
 {
     let refused = forced_refused(pieces, rows, cols, tiles, count, place, offset, bounds);
     if refused != 0 {

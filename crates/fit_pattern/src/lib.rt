@@ -23,7 +23,7 @@ pub const PATCH_CELLS: usize = 25;
 // The colour on the cell (r, c); 0 where it is bare or past the edge.
 fn colour_at(pieces: &[u32], rows: usize, cols: usize, r: usize, c: usize) -> u8
     requires { Readable pieces.now rows cols }
-    ensures { result ≡ colour_on (before pieces) (entry_or_past rows cols (cell_at r c)) }
+    ensures { result ≡ colour_on pieces.now (entry_or_past rows cols (cell_at r c)) }
 {
     if r >= rows {
         return 0;
@@ -44,7 +44,7 @@ pub fn region_at(
 ) -> [u8; rules::TILE_CELLS]
     requires readable { Readable pieces.now rows cols }
     requires cell_on { CellOn rows cols row col }
-    ensures { result ≡ tab 9 (pattern (flat rows cols) (before pieces) (entry_of cols (cell_at row col))) }
+    ensures { result ≡ tab 9 (pattern (flat rows cols) pieces.now (entry_of cols (cell_at row col))) }
 {
     let mut region = [0u8; rules::TILE_CELLS];
     let mut i = 0;
@@ -58,7 +58,7 @@ pub fn region_at(
 // The colour on the cell two up and two left of (r, c); 0 where it is bare or past any edge.
 fn colour_back(pieces: &[u32], rows: usize, cols: usize, r: usize, c: usize) -> u8
     requires { Readable pieces.now rows cols }
-    ensures { result ≡ colour_on (before pieces) (entry_back rows cols (cell_at r c)) }
+    ensures { result ≡ colour_on pieces.now (entry_back rows cols (cell_at r c)) }
 {
     if r < REACH {
         return 0;
@@ -79,7 +79,7 @@ pub fn patch_at(
 ) -> [u8; PATCH_CELLS]
     requires readable { Readable pieces.now rows cols }
     requires cell_on { CellOn rows cols row col }
-    ensures { result ≡ tab 25 (patch_round rows cols (before pieces) (cell_at row col)) }
+    ensures { result ≡ tab 25 (patch_round rows cols pieces.now (cell_at row col)) }
 {
     let mut patch = [0u8; PATCH_CELLS];
     let mut j = 0;
@@ -107,7 +107,7 @@ pub fn window_in(q: usize) -> usize
 // Two and three cells read as one number, the first the lowest.
 fn pair(cells: &[u8], at: usize) -> u64
     requires { at + 2 ≤ length cells.now }
-    ensures { result ≡ packed 2 (cells_from (before cells) at) }
+    ensures { result ≡ packed 2 (cells_from cells.now at) }
 {
     let low = cells[at] as u64;
     let high = cells[at + 1] as u64;
@@ -116,7 +116,7 @@ fn pair(cells: &[u8], at: usize) -> u64
 
 fn three(cells: &[u8], at: usize) -> u64
     requires { at + 3 ≤ length cells.now }
-    ensures { result ≡ packed 3 (cells_from (before cells) at) }
+    ensures { result ≡ packed 3 (cells_from cells.now at) }
 {
     let low = pair(cells, at);
     let high = cells[at + 2] as u64;
@@ -126,7 +126,7 @@ fn three(cells: &[u8], at: usize) -> u64
 // The first eight cells of the window that starts at a cell, where a row has `width` cells: of a tile the compiler makes one load.
 fn eight(cells: &[u8], width: usize, at: usize) -> u64
     requires { at + width + width + 3 ≤ length cells.now }
-    ensures { result ≡ packed 8 (shown_in (before cells) width at) }
+    ensures { result ≡ packed 8 (shown_in cells.now width at) }
 {
     let top = three(cells, at);
     let middle = three(cells, at + width);
@@ -146,7 +146,7 @@ fn mask_for(colour: u8) -> u8
 fn eight_masks(cells: &[u8], width: usize, at: usize) -> u64
     requires width_in_bounds { at + width + width + 3 ≤ length cells.now }
     requires painted { Painted cells.now }
-    ensures { result ≡ packed 8 (λ i. mask_of (shown_in (before cells) width at i)) }
+    ensures { result ≡ packed 8 (λ i. mask_of (shown_in cells.now width at i)) }
 {
     let colours = eight(cells, width, at);
     let laid = (colours + 0x7f7f_7f7f_7f7f_7f7f) & 0x8080_8080_8080_8080;
@@ -160,7 +160,7 @@ pub fn tile_fits(tiles: &[u8], n: usize, cells: &[u8], width: usize, at: usize) 
     requires n_in_bounds { n * 9 + 9 ≤ length tiles.now }
     requires width_in_bounds { at + width + width + 3 ≤ length cells.now }
     requires painted { Painted cells.now }
-    ensures { result ≡ fits_tile (before tiles) (shown_in (before cells) width at) n }
+    ensures { result ≡ fits_tile tiles.now (shown_in cells.now width at) n }
 {
     let tile = n * rules::TILE_CELLS;
     let first = eight(cells, width, at);
@@ -174,7 +174,7 @@ pub fn tile_fits(tiles: &[u8], n: usize, cells: &[u8], width: usize, at: usize) 
 // No piece lies in the window.
 pub fn is_bare(cells: &[u8], width: usize, at: usize) -> bool
     requires { at + width + width + 3 ≤ length cells.now }
-    ensures { result ≡ every 9 (λ i. eqb (shown_in (before cells) width at i) 0) }
+    ensures { result ≡ every 9 (λ i. eqb (shown_in cells.now width at i) 0) }
 {
     let first = eight(cells, width, at) == 0;
     let last = cells[at + width + width + 2] == 0;

@@ -13,7 +13,7 @@ use rules::{Cell, DeadEnd, Listing};
 
 // The refusal of the sides and lengths, 0 where there is none.
 fn lengths_refused(pieces: &[u32], weights: &[u32], rows: usize, cols: usize, tiles: &[u8]) -> u8
-    ensures { result ≡ refusal (scan_lengths (before pieces) (before weights) rows cols (before tiles)) }
+    ensures { result ≡ refusal (scan_lengths pieces.now weights.now rows cols tiles.now) }
 {
     if !check_sizes::board_sides(rows, cols) {
         return rules::SHAPE;
@@ -33,7 +33,7 @@ fn lengths_refused(pieces: &[u32], weights: &[u32], rows: usize, cols: usize, ti
 
 // The refusal of the colour count and of what the planes hold, 0 where there is none.
 fn cells_refused(pieces: &[u32], weights: &[u32], tiles: &[u8], count: u32) -> u8
-    ensures { result ≡ refusal (cell_checks (before pieces) (before weights) (before tiles) count) }
+    ensures { result ≡ refusal (cell_checks pieces.now weights.now tiles.now count) }
 {
     let no = check_contents::colours_refused(tiles, count, pieces);
     if no != 0 {
@@ -54,7 +54,7 @@ pub fn scan_refused(
     tiles: &[u8],
     count: u32,
 ) -> u8
-    ensures { result ≡ refusal (scan_checks (before pieces) (before weights) rows cols (before tiles) count) }
+    ensures { result ≡ refusal (scan_checks pieces.now weights.now rows cols tiles.now count) }
 {
     let refused = lengths_refused(pieces, weights, rows, cols, tiles);
     if refused != 0 {
@@ -76,7 +76,7 @@ fn is_dead_end(
 ) -> bool
     requires scannable { Scannable pieces.now weights.now rows cols tiles.now count }
     requires cell_on { CellOn rows cols cell.0 cell.1 }
-    ensures { result ≡ dead_at (flat rows cols) (before tiles) (before pieces) (before weights) count (entry_of cols cell) }
+    ensures { result ≡ dead_at (flat rows cols) tiles.now pieces.now weights.now count (entry_of cols cell) }
 {
     let at = cell.0 * cols + cell.1;
     if pieces[at] > rules::BARE_PIECE {
@@ -102,7 +102,7 @@ pub fn first_dead_end(
     count: u32,
 ) -> DeadEnd
     requires { Scannable pieces.now weights.now rows cols tiles.now count }
-    ensures { result ≡ scanned flat (before pieces) (before weights) rows cols (before tiles) count }
+    ensures { result ≡ scanned flat pieces.now weights.now rows cols tiles.now count }
 {
     let mut found = DeadEnd::Nowhere;
     'scan: for row in 0..rows {
@@ -126,7 +126,7 @@ pub fn check_for_contradiction(
     tiles: &[u8],
     count: u32,
 ) -> DeadEnd
-    ensures { result ≡ dead_end flat (before pieces) (before weights) rows cols (before tiles) count }
+    ensures { result ≡ dead_end flat pieces.now weights.now rows cols tiles.now count }
 {
     let refused = scan_refused(pieces, weights, rows, cols, tiles, count);
     if refused != 0 {

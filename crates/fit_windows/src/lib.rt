@@ -31,7 +31,7 @@ fn one_if(test: bool) -> u32
 fn fit_count(tiles: &[u8], region: &[u8; rules::TILE_CELLS]) -> u32
     requires tiles_bound { tiles_in tiles.now ≤ max_tiles }
     requires painted { Painted region.now }
-    ensures { result ≡ fit_count (before tiles) (shown_in (before region) 3 0) }
+    ensures { result ≡ fit_count tiles.now (shown_in region.now 3 0) }
 {
     let last = tiles.len() / rules::TILE_CELLS;
     if fit_pattern::is_bare(region, 3, 0) {
@@ -57,7 +57,7 @@ pub fn fit_count_at(
 ) -> u32
     requires countable { Countable pieces.now rows cols tiles.now }
     requires cell_on { CellOn rows cols row col }
-    ensures { result ≡ fit_count (before tiles) (pattern (flat rows cols) (before pieces) (entry_of cols (cell_at row col))) }
+    ensures { result ≡ fit_count tiles.now (pattern (flat rows cols) pieces.now (entry_of cols (cell_at row col))) }
 {
     let region = fit_pattern::region_at(pieces, rows, cols, row, col);
     fit_count(tiles, &region)
@@ -85,7 +85,7 @@ fn missing_past(
     requires coloured { Coloured tiles.now }
     requires painted { Painted patch.now }
     requires q_bound { q < 9 }
-    ensures { Keeps missing (λ t. not (serves (before tiles) (window_of (before patch) q) q t n)) result }
+    ensures { Keeps missing (λ t. not (serves tiles.now (window_of patch.now q) q t n)) result }
 {
     let at = fit_pattern::window_in(q);
     if !fit_pattern::tile_fits(tiles, n, patch, fit_pattern::PATCH_SIDE, at) {
@@ -100,7 +100,7 @@ fn window_colours(left: u32, tiles: &[u8], patch: &[u8; fit_pattern::PATCH_CELLS
     requires coloured { Coloured tiles.now }
     requires painted { Painted patch.now }
     requires q_bound { q < 9 }
-    ensures { Keeps left (has_fitting (before tiles) (window_of (before patch) q) q) result }
+    ensures { Keeps left (has_fitting tiles.now (window_of patch.now q) q) result }
 {
     let end = tiles.len() / rules::TILE_CELLS;
     let mut missing = left;
@@ -128,7 +128,7 @@ fn narrowed(
     requires painted { Painted patch.now }
     requires coloured { Coloured tiles.now }
     requires q_bound { q < 9 }
-    ensures { Keeps left (λ t. allows_in (before tiles) (before patch) row col t q) result }
+    ensures { Keeps left (λ t. allows_in tiles.now patch.now row col t q) result }
 {
     if row < q / 3 {
         return left;
@@ -159,7 +159,7 @@ fn viable_colours(
 ) -> u32
     requires ready { Ready pieces.now rows cols tiles.now count }
     requires cell_on { CellOn rows cols row col }
-    ensures { result ≡ bits_of count (lists (flat rows cols) (before tiles) (before pieces) (entry_of cols (cell_at row col))) }
+    ensures { result ≡ bits_of count (lists (flat rows cols) tiles.now pieces.now (entry_of cols (cell_at row col))) }
 {
     let patch = fit_pattern::patch_at(pieces, rows, cols, row, col);
     let mut left = bitset_colours::all_colours(count);
@@ -186,7 +186,7 @@ pub fn viable_tiles_at(
 ) -> Listing
     requires ready { Ready pieces.now rows cols tiles.now count }
     requires cell_on { CellOn rows cols cell.0 cell.1 }
-    ensures { result ≡ Colours (found_at (flat rows cols) (before tiles) (before pieces) count (entry_of cols cell)) }
+    ensures { result ≡ Colours (found_at (flat rows cols) tiles.now pieces.now count (entry_of cols cell)) }
 {
     let bits = viable_colours(pieces, rows, cols, tiles, count, cell.0, cell.1);
     Listing::Colours(TileBitset {

@@ -32,7 +32,7 @@ pub extern "C" fn port_listing(
     across: i32,
     out: &mut [u32],
 ) -> u32
-    ensures { PortLists (before pieces) rows cols (before tiles) count row col down across (before out) result (after out) }
+    ensures { PortLists pieces.now rows cols tiles.now count row col down across (before out) result (after out) }
 {
     let place = world_at(row, col);
     let offset = offset_at(down, across);
@@ -52,7 +52,7 @@ pub extern "C" fn port_scan(
     count: u32,
     out: &mut [u64],
 ) -> u32
-    ensures { TellsDeadEnd (dead_end flat (before pieces) (before weights) rows cols (before tiles) count) (before out) result (after out) }
+    ensures { TellsDeadEnd (dead_end flat pieces.now weights.now rows cols tiles.now count) (before out) result (after out) }
 {
     let answer = fit_scan::check_for_contradiction(pieces, weights, rows, cols, tiles, count);
     scanned(answer, out)
@@ -169,7 +169,7 @@ pub extern "C" fn port_region_count(
     col: usize,
     out: &mut [u64],
 ) -> u32
-    ensures { TellsCount (region_count flat (before pieces) rows cols (before tiles) count (cell_at row col)) (before out) result (after out) }
+    ensures { TellsCount (region_count flat pieces.now rows cols tiles.now count (cell_at row col)) (before out) result (after out) }
 {
     let answer = fit::count_fitting(pieces, rows, cols, tiles, count, Cell(row, col));
     counted(answer, out)
@@ -185,7 +185,7 @@ pub extern "C" fn port_fraction(
     col: usize,
     out: &mut [f64],
 ) -> u32
-    ensures { TellsFraction (fraction_at (before counts) rows cols tiles (cell_at row col)) (before out) result (after out) }
+    ensures { TellsFraction (fraction_at counts.now rows cols tiles (cell_at row col)) (before out) result (after out) }
 {
     let answer = fit::get_fraction(counts, rows, cols, tiles, Cell(row, col));
     divided(answer, out)
@@ -240,7 +240,7 @@ pub extern "C" fn port_recount(
     down: i32,
     across: i32,
 ) -> u32
-    ensures { PortRecounts rows cols (before tiles) count row col down across (before pieces) (before counts) result (after counts) }
+    ensures { PortRecounts rows cols tiles.now count row col down across pieces.now (before counts) result (after counts) }
 {
     let place = world_at(row, col);
     let offset = offset_at(down, across);

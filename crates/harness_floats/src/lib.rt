@@ -23,7 +23,7 @@ pub extern "C" fn port_normalise(
     across: i32,
     out: &mut [f64],
 ) -> u32
-    ensures { Numbered written_number (Normalises (before probabilities) rows cols count (world row col) (offset_by down across)
+    ensures { Numbered written_number (Normalises probabilities.now rows cols count (world row col) (offset_by down across)
         (before out)) result (after out) }
 {
     let place = world_at(row, col);
@@ -55,7 +55,7 @@ pub extern "C" fn port_product(
     across: i32,
     radius: usize,
 ) -> u32
-    ensures { Numbered written_number (Multiplies rows cols count (block_of blockrows blockcols (before block)) (world row col) (offset_by down across)
+    ensures { Numbered written_number (Multiplies rows cols count (block_of blockrows blockcols block.now) (world row col) (offset_by down across)
         radius (before probabilities)) result (after probabilities) }
 {
     let place = world_at(row, col);
@@ -90,7 +90,7 @@ pub extern "C" fn port_quotient(
     across: i32,
     radius: usize,
 ) -> u32
-    ensures { Numbered written_number (Divides rows cols count (block_of blockrows blockcols (before block)) (world row col) (offset_by down across)
+    ensures { Numbered written_number (Divides rows cols count (block_of blockrows blockcols block.now) (world row col) (offset_by down across)
         radius (before probabilities)) result (after probabilities) }
 {
     let place = world_at(row, col);
@@ -122,7 +122,7 @@ pub extern "C" fn port_lay_score(
     down: i32,
     across: i32,
 ) -> u32
-    ensures { Numbered written_number (ScoresLay rows cols (before counts) tiles (world row col) (offset_by down across)
+    ensures { Numbered written_number (ScoresLay rows cols counts.now tiles (world row col) (offset_by down across)
         (before scores)) result (after scores) }
 {
     let place = world_at(row, col);
@@ -143,7 +143,7 @@ pub extern "C" fn port_lift_score(
     colstart: usize,
     colend: usize,
 ) -> u32
-    ensures { Numbered written_number (ScoresLift rows cols (before counts) tiles (span_from rowstart rowend) (span_from colstart colend)
+    ensures { Numbered written_number (ScoresLift rows cols counts.now tiles (span_from rowstart rowend) (span_from colstart colend)
         (before scores)) result (after scores) }
 {
     let answer = scores::aggregate_feasibility(

@@ -35,7 +35,7 @@ pub extern "C" fn port_forced(
     colours: &mut [u32],
     len: &mut [u64],
 ) -> u32
-    ensures { PortForces (before pieces) rows cols (before tiles) count (world row col) (offset_by down across)
+    ensures { PortForces pieces.now rows cols tiles.now count (world row col) (offset_by down across)
         (bounds_from within (world minrow mincol) (world maxrow maxcol)) coordinates colours len result }
 {
     let place = world_at(row, col);
@@ -59,7 +59,7 @@ pub extern "C" fn port_queue_add(
     addedcolours: &[u32],
     addedlen: usize,
 ) -> u32
-    ensures { PortAdds (positions_from (before addedcoordinates) (before addedcolours) addedlen) coordinates colours len result }
+    ensures { PortAdds (positions_from addedcoordinates.now addedcolours.now addedlen) coordinates colours len result }
 {
     let n = slices::length_at(len);
     let queue = slices::queue_from(coordinates, colours, n);
@@ -96,7 +96,7 @@ pub extern "C" fn port_queue_is_empty(
     len: usize,
     out: &mut [u32],
 ) -> u32
-    ensures { TellsVerdict (queue_empty (queue_from (before coordinates) (before colours) len)) (before out) result (after out) }
+    ensures { TellsVerdict (queue_empty (queue_from coordinates.now colours.now len)) (before out) result (after out) }
 {
     let queue = slices::queue_from(coordinates, colours, len);
     let answer = queue::is_empty(queue);
@@ -110,7 +110,7 @@ pub extern "C" fn port_queue_len(
     len: usize,
     out: &mut [u64],
 ) -> u32
-    ensures { TellsCount (queue_length (queue_from (before coordinates) (before colours) len)) (before out) result (after out) }
+    ensures { TellsCount (queue_length (queue_from coordinates.now colours.now len)) (before out) result (after out) }
 {
     let queue = slices::queue_from(coordinates, colours, len);
     let answer = queue::len(queue);

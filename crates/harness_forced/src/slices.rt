@@ -12,7 +12,7 @@ use boundary_slots::{put_long, put_signed, put_word};
 use rules::{ForcedPipeline, ForcedPosition, ForcedPositions, Next, World, Written};
 
 fn signed_at(words: &[i32], at: usize) -> i32
-    ensures { result ≡ get_or (before words) at (pos 0) }
+    ensures { result ≡ get_or words.now at (pos 0) }
 {
     if at < words.len() {
         return words[at];
@@ -21,7 +21,7 @@ fn signed_at(words: &[i32], at: usize) -> i32
 }
 
 fn word_at(words: &[u32], at: usize) -> u32
-    ensures { result ≡ get_or (before words) at 0 }
+    ensures { result ≡ get_or words.now at 0 }
 {
     if at < words.len() {
         return words[at];
@@ -31,7 +31,7 @@ fn word_at(words: &[u32], at: usize) -> u32
 
 fn entry_at(coordinates: &[i32], colours: &[u32], i: usize) -> ForcedPosition
     requires { i < queue_room }
-    ensures { result ≡ entry_at (before coordinates) (before colours) i }
+    ensures { result ≡ entry_at coordinates.now colours.now i }
 {
     let row = signed_at(coordinates, 2 * i);
     let col = signed_at(coordinates, 2 * i + 1);
@@ -43,7 +43,7 @@ fn entry_at(coordinates: &[i32], colours: &[u32], i: usize) -> ForcedPosition
 }
 
 pub fn queue_from(coordinates: &[i32], colours: &[u32], len: usize) -> ForcedPipeline
-    ensures { result ≡ queue_from (before coordinates) (before colours) len }
+    ensures { result ≡ queue_from coordinates.now colours.now len }
 {
     let none = queue::new();
     let mut entries = none.entries;
@@ -56,7 +56,7 @@ pub fn queue_from(coordinates: &[i32], colours: &[u32], len: usize) -> ForcedPip
 }
 
 pub fn positions_from(coordinates: &[i32], colours: &[u32], len: usize) -> ForcedPositions
-    ensures { result ≡ positions_from (before coordinates) (before colours) len }
+    ensures { result ≡ positions_from coordinates.now colours.now len }
 {
     let none = ForcedPosition {
         coordinates: World(0, 0),
@@ -73,7 +73,7 @@ pub fn positions_from(coordinates: &[i32], colours: &[u32], len: usize) -> Force
 
 // The entry that holds a length; 0 where there is none.
 pub fn length_at(longs: &[u64]) -> usize
-    ensures { result ≡ get_or (before longs) 0 0 }
+    ensures { result ≡ get_or longs.now 0 0 }
 {
     if 0 < longs.len() {
         return longs[0] as usize;

@@ -17,13 +17,13 @@ pub fn box_at(minrow: i32, mincol: i32, maxrow: i32, maxcol: i32) -> BoundingBox
 }
 
 fn byte_at(bytes: &[u8], at: usize) -> u8
-    ensures { result ≡ get_or (before bytes) at 0 }
+    ensures { result ≡ get_or bytes.now at 0 }
 {
     if at < bytes.len() { bytes[at] } else { 0 }
 }
 
 pub fn tile_of(bytes: &[u8]) -> [u8; rules::TILE_CELLS]
-    ensures { result ≡ nine_of (before bytes) }
+    ensures { result ≡ nine_of bytes.now }
 {
     let mut tile = [0u8; rules::TILE_CELLS];
     let mut k = 0;
@@ -35,7 +35,7 @@ pub fn tile_of(bytes: &[u8]) -> [u8; rules::TILE_CELLS]
 }
 
 pub fn put_bytes(out: &mut [u8], bytes: &[u8])
-    ensures { after out ≡ put_from 0 (before bytes) (before out) }
+    ensures { after out ≡ put_from 0 bytes.now (before out) }
 {
     let mut k = 0;
     while k < bytes.len() {

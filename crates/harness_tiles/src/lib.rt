@@ -95,7 +95,7 @@ pub extern "C" fn port_extend_u32(
     bottom: usize,
     target: &mut [u32],
 ) -> u32
-    ensures { Numbered written_number (CopiesWords rows cols (pads_by left right top bottom) (before plane) (before target)) result (after target) }
+    ensures { Numbered written_number (CopiesWords rows cols (pads_by left right top bottom) plane.now (before target)) result (after target) }
 {
     let pads = Pads {
         left,
@@ -118,7 +118,7 @@ pub extern "C" fn port_extend_f64(
     bottom: usize,
     target: &mut [f64],
 ) -> u32
-    ensures { Numbered written_number (CopiesFloats rows cols (pads_by left right top bottom) (before plane) (before target)) result (after target) }
+    ensures { Numbered written_number (CopiesFloats rows cols (pads_by left right top bottom) plane.now (before target)) result (after target) }
 {
     let pads = Pads {
         left,
@@ -149,7 +149,7 @@ pub extern "C" fn port_extract_tiles(
     store: &mut [u8],
     out: &mut [u64],
 ) -> u32
-    ensures { PortExtracts (before sample) rows cols count rotations reflections store out result }
+    ensures { PortExtracts sample.now rows cols count rotations reflections store out result }
 {
     let answer = tiles::extract_tiles(sample, rows, cols, count, rotations, reflections, store);
     extracted(answer, out)
@@ -157,7 +157,7 @@ pub extern "C" fn port_extract_tiles(
 
 #[unsafe(no_mangle)]
 pub extern "C" fn port_rotate_90(tile: &[u8], out: &mut [u8])
-    ensures { after out ≡ put_from 0 (rotated (nine_of (before tile))) (before out) }
+    ensures { after out ≡ put_from 0 (rotated (nine_of tile.now)) (before out) }
 {
     let turned = tile_forms::rotate_90(lent::tile_of(tile));
     lent::put_bytes(out, &turned);
@@ -165,7 +165,7 @@ pub extern "C" fn port_rotate_90(tile: &[u8], out: &mut [u8])
 
 #[unsafe(no_mangle)]
 pub extern "C" fn port_reflect(tile: &[u8], out: &mut [u8])
-    ensures { after out ≡ put_from 0 (reflected (nine_of (before tile))) (before out) }
+    ensures { after out ≡ put_from 0 (reflected (nine_of tile.now)) (before out) }
 {
     let mirrored = tile_forms::reflect(lent::tile_of(tile));
     lent::put_bytes(out, &mirrored);
@@ -173,7 +173,7 @@ pub extern "C" fn port_reflect(tile: &[u8], out: &mut [u8])
 
 #[unsafe(no_mangle)]
 pub extern "C" fn port_membership(tile: &[u8], count: u32, out: &mut [u32]) -> u32
-    ensures { TellsSet (membership (nine_of (before tile)) count) (before out) result (after out) }
+    ensures { TellsSet (membership (nine_of tile.now) count) (before out) result (after out) }
 {
     let answer = tiles::convert_tile_to_membership_booleans(lent::tile_of(tile), count);
     set_given(answer, out)

@@ -22,7 +22,7 @@ fn put_headed(
     plane: &[u32],
     cols: usize,
 ) -> usize
-    ensures { Prints (before heading ++ plane_text least (before plane) cols) at (before out) result (after out) }
+    ensures { Prints (heading.now ++ plane_text least plane.now cols) at (before out) result (after out) }
 {
     let next = listing_lines::put_text(out, at, heading);
     listing_lines::put_plane(out, next, least, plane, cols)
@@ -88,7 +88,7 @@ pub fn put_end(
     setup: Setup,
 ) -> usize
     requires { board_sides setup.board.rows setup.board.cols ≡ true }
-    ensures { Prints (end_text (panel_with setup (before tiles)) setup.count (board_before pieces weights counts)) at (before out) result (after out) }
+    ensures { Prints (end_text (panel_with setup tiles.now) setup.count (board_before pieces weights counts)) at (before out) result (after out) }
 {
     let rows = setup.board.rows;
     let cols = setup.board.cols;

@@ -8,7 +8,7 @@ use crate::{Form, MAX_BOARD, MAX_SAMPLE, Setup, Sides};
 
 // The number at k, 0 past the last.
 fn number(numbers: &[u32], k: usize) -> u32
-    ensures { result ≡ get_or (before numbers) k 0 }
+    ensures { result ≡ get_or numbers.now k 0 }
 {
     if k < numbers.len() {
         return numbers[k];
@@ -41,7 +41,7 @@ fn sides_up_to(most: u32, rows: u32, cols: u32) -> bool
 // Where the step that starts at p ends; past the last number where none starts so.
 pub fn step_end(numbers: &[u32], p: usize) -> usize
     requires { p < length numbers.now }
-    ensures { result ≡ step_end (before numbers) p }
+    ensures { result ≡ step_end numbers.now p }
 {
     if numbers[p] == 1 {
         return p + 4;
@@ -55,7 +55,7 @@ pub fn step_end(numbers: &[u32], p: usize) -> usize
 // The numbers from the given one on are whole steps.
 fn are_steps(numbers: &[u32], from: usize) -> bool
     requires { from ≤ length numbers.now }
-    ensures { result ≡ is_whole (steps_in (drop from (before numbers))) }
+    ensures { result ≡ is_whole (steps_in (drop from numbers.now)) }
 {
     let mut p = from;
     while p < numbers.len() {
@@ -65,7 +65,7 @@ fn are_steps(numbers: &[u32], from: usize) -> bool
 }
 
 fn head_fits(numbers: &[u32]) -> bool
-    ensures { result ≡ head_fits (before numbers) }
+    ensures { result ≡ head_fits numbers.now }
 {
     if sides_up_to(MAX_SAMPLE, number(numbers, 0), number(numbers, 1)) {
         if number(numbers, 3) <= 1 {
@@ -80,7 +80,7 @@ fn head_fits(numbers: &[u32]) -> bool
 
 fn tail_fits(numbers: &[u32], cells: usize) -> bool
     requires { cells ≤ 256 }
-    ensures { result ≡ tail_fits (before numbers) cells }
+    ensures { result ≡ tail_fits numbers.now cells }
 {
     if cells + 7 <= numbers.len() {
         if sides_up_to(
@@ -100,13 +100,13 @@ fn tail_fits(numbers: &[u32], cells: usize) -> bool
 // How many cells the sample has.
 fn sample_cells(numbers: &[u32]) -> usize
     requires { head_fits numbers.now ≡ true }
-    ensures { result ≡ sample_cells (before numbers) }
+    ensures { result ≡ sample_cells numbers.now }
 {
     wide(number(numbers, 0)) * wide(number(numbers, 1))
 }
 
 fn is_formed(numbers: &[u32]) -> bool
-    ensures { result ≡ is_formed (before numbers) }
+    ensures { result ≡ is_formed numbers.now }
 {
     if head_fits(numbers) {
         tail_fits(numbers, sample_cells(numbers))
@@ -126,7 +126,7 @@ fn sides(rows: u32, cols: u32) -> Sides
 
 fn setup_of(numbers: &[u32]) -> Setup
     requires { head_fits numbers.now ≡ true }
-    ensures { result ≡ setup_of (before numbers) }
+    ensures { result ≡ setup_of numbers.now }
 {
     let cells = sample_cells(numbers);
     let sample = sides(number(numbers, 0), number(numbers, 1));
@@ -142,7 +142,7 @@ fn setup_of(numbers: &[u32]) -> Setup
 
 // The job that the numbers make, if they are of its form.
 pub fn form_of(numbers: &[u32]) -> Form
-    ensures { result ≡ form_of (before numbers) }
+    ensures { result ≡ form_of numbers.now }
 {
     if is_formed(numbers) {
         return Form::Whole(setup_of(numbers));

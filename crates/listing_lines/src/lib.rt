@@ -53,7 +53,7 @@ pub fn put_number_line(out: &mut [u8], at: usize, n: u32) -> usize
 
 // A text as it stands: a heading, for one.
 pub fn put_text(out: &mut [u8], at: usize, text: &[u8]) -> usize
-    ensures { Prints (before text) at (before out) result (after out) }
+    ensures { Prints text.now at (before out) result (after out) }
 {
     let mut p = at;
     let mut k = 0;
@@ -89,7 +89,7 @@ fn above(least: u32, n: u32) -> u32
 // A cell of a plane, and what stands after it.
 fn put_cell(out: &mut [u8], at: usize, least: u32, plane: &[u32], cols: usize, k: usize) -> usize
     requires { k < length plane.now }
-    ensures { Prints (cell_text least (before plane) cols k) at (before out) result (after out) }
+    ensures { Prints (cell_text least plane.now cols k) at (before out) result (after out) }
 {
     let next = put_number(out, at, above(least, plane[k]));
     put(out, next, gap_after(cols, k))
@@ -97,7 +97,7 @@ fn put_cell(out: &mut [u8], at: usize, least: u32, plane: &[u32], cols: usize, k
 
 // A plane, row by row.
 pub fn put_plane(out: &mut [u8], at: usize, least: u32, plane: &[u32], cols: usize) -> usize
-    ensures { Prints (plane_text least (before plane) cols) at (before out) result (after out) }
+    ensures { Prints (plane_text least plane.now cols) at (before out) result (after out) }
 {
     let mut p = at;
     let mut k = 0;

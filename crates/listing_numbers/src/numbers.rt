@@ -8,7 +8,7 @@ ghost use Rattle.listing_numbers.specs.Input.{input_text};
 use crate::{Found, MAX_INPUT, MAX_NUMBER, Parsed, State};
 
 fn is_blank(blanks: &[u8], b: u8) -> bool
-    ensures { result ≡ is_blank (before blanks) b }
+    ensures { result ≡ is_blank blanks.now b }
 {
     let mut k = 0;
     while k < blanks.len() {
@@ -48,7 +48,7 @@ fn grown_by(limit: u32, k: usize, n: u32, b: u8) -> State
 // One byte more.
 fn after_byte(s: State, b: u8, blanks: &[u8], limit: u32) -> State
     requires { bytes_read s < 18446744073709551615 }
-    ensures { result ≡ next_state (before blanks) limit s b }
+    ensures { result ≡ next_state blanks.now limit s b }
 {
     match s {
         State::Spoilt => State::Spoilt,
@@ -69,7 +69,7 @@ fn after_byte(s: State, b: u8, blanks: &[u8], limit: u32) -> State
 
 // What a text is, with nothing stored.
 fn survey(text: &[u8], blanks: &[u8], limit: u32) -> Found
-    ensures { result ≡ found_by (state_of (reading (before blanks) limit (before text))) }
+    ensures { result ≡ found_by (state_of (reading blanks.now limit text.now)) }
 {
     let mut s = State::Between(0);
     let mut i = 0;
@@ -100,7 +100,7 @@ fn hold(store: &mut [u32], s: State)
 // Stores the numbers of a text that is known to be numbers, and few enough.
 fn keep(store: &mut [u32], text: &[u8], blanks: &[u8], limit: u32)
     requires { Fits (length store.old) (reading blanks.now limit text.now) }
-    ensures { after store ≡ over (begun (reading (before blanks) limit (before text))) (before store) }
+    ensures { after store ≡ over (begun (reading blanks.now limit text.now)) (before store) }
 {
     let mut s = State::Between(0);
     let mut i = 0;
@@ -113,7 +113,7 @@ fn keep(store: &mut [u32], text: &[u8], blanks: &[u8], limit: u32)
 
 // Reads the numbers of a text into the store; any other text, and one for which there is no room, leaves it as it was.
 pub fn parse(store: &mut [u32], text: &[u8], blanks: &[u8], limit: u32) -> Parsed
-    ensures { Parses (numbers_in (before blanks) limit (before text)) (before store) result (after store) }
+    ensures { Parses (numbers_in blanks.now limit text.now) (before store) result (after store) }
 {
     let found = survey(text, blanks, limit);
     let Found::Numbers(n) = found else {
@@ -128,7 +128,7 @@ pub fn parse(store: &mut [u32], text: &[u8], blanks: &[u8], limit: u32) -> Parse
 
 // The listing program's input.
 pub fn read_input(store: &mut [u32], input: &[u8]) -> Parsed
-    ensures { Parses (input_text (before input)) (before store) result (after store) }
+    ensures { Parses (input_text input.now) (before store) result (after store) }
 {
     if MAX_INPUT < input.len() {
         return Parsed::Bad;

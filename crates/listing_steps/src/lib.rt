@@ -28,7 +28,7 @@ fn take_step(
     p: usize,
 ) -> u32
     requires { (Walks numbers.now p) × (p < length numbers.now) }
-    ensures { Takes setup (before tiles) (step_at (before numbers) p) (board_before pieces weights counts) result (board_after pieces weights counts) }
+    ensures { Takes setup tiles.now (step_at numbers.now p) (board_before pieces weights counts) result (board_after pieces weights counts) }
 {
     let rows = setup.board.rows;
     let cols = setup.board.cols;
@@ -74,7 +74,7 @@ fn step(
     p: usize,
 ) -> usize
     requires { (Walks numbers.now p) × (p < length numbers.now) }
-    ensures { StepsOn setup (before tiles) (step_at (before numbers) p) pieces weights counts at out result }
+    ensures { StepsOn setup tiles.now (step_at numbers.now p) pieces weights counts at out result }
 {
     let no = take_step(pieces, weights, counts, tiles, setup, numbers, p);
     listing_lines::put_number_line(out, at, no)
@@ -93,7 +93,7 @@ pub fn run_steps(
     from: usize,
 ) -> usize
     requires { Walks numbers.now from }
-    ensures { RunsOn setup (before tiles) (steps_from (before numbers) from) pieces weights counts at out result }
+    ensures { RunsOn setup tiles.now (steps_from numbers.now from) pieces weights counts at out result }
 {
     let mut q = at;
     let mut p = from;

@@ -31,7 +31,7 @@ fn clip(n: u32) -> u8
 // The sample's cells, which follow the first five numbers.
 fn copy_cells(sample: &mut [u8], numbers: &[u32])
     requires { 5 + length sample.old ≤ length numbers.now }
-    ensures { after sample ≡ clipped (before numbers) (length (before sample)) }
+    ensures { after sample ≡ clipped numbers.now (length (before sample)) }
 {
     let mut k = 0;
     while k < sample.len() {
@@ -52,7 +52,7 @@ fn run(
     from: usize,
 ) -> usize
     requires { (Planes (panel_with setup tiles.now) (board pieces.old weights.old counts.old)) × (Walks numbers.now from) }
-    ensures { Prints (fresh_run setup (before tiles) (steps_from (before numbers) from)) 0 (before out) result (after out) }
+    ensures { Prints (fresh_run setup tiles.now (steps_from numbers.now from)) 0 (before out) result (after out) }
 {
     let rows = setup.board.rows;
     let cols = setup.board.cols;
@@ -71,7 +71,7 @@ fn run(
 // The planes, 1,024 equal entries each, of which the board takes as many as it has cells.
 fn run_on_planes(out: &mut [u8], tiles: &[u8], setup: Setup, numbers: &[u32], from: usize) -> usize
     requires { (whole_tiles tiles.now ≡ true) × (sides_up_to max_board setup.board.rows setup.board.cols ≡ true) × (Walks numbers.now from) }
-    ensures { Prints (fresh_run setup (before tiles) (steps_from (before numbers) from)) 0 (before out) result (after out) }
+    ensures { Prints (fresh_run setup tiles.now (steps_from numbers.now from)) 0 (before out) result (after out) }
 {
     let cells = setup.board.rows * setup.board.cols;
     let mut pieces = [1u32; 1024];
@@ -92,7 +92,7 @@ fn run_on_planes(out: &mut [u8], tiles: &[u8], setup: Setup, numbers: &[u32], fr
 // A job whose numbers are of the form; the sample is a store for its cells as bytes.
 fn list_sample(out: &mut [u8], sample: &mut [u8], numbers: &[u32], setup: Setup) -> usize
     requires { (Formed numbers.now setup) × (length sample.old ≡ setup.sample.rows * setup.sample.cols) }
-    ensures { Prints (job_text (before numbers) setup) 0 (before out) result (after out) }
+    ensures { Prints (job_text numbers.now setup) 0 (before out) result (after out) }
 {
     copy_cells(sample, numbers);
     let mut store = [0u8; STORE];
@@ -120,7 +120,7 @@ fn list_sample(out: &mut [u8], sample: &mut [u8], numbers: &[u32], setup: Setup)
 
 pub fn list_job(out: &mut [u8], numbers: &[u32], setup: Setup) -> usize
     requires { Formed numbers.now setup }
-    ensures { Prints (job_text (before numbers) setup) 0 (before out) result (after out) }
+    ensures { Prints (job_text numbers.now setup) 0 (before out) result (after out) }
 {
     let cells = setup.sample.rows * setup.sample.cols;
     let mut sample = [0u8; SAMPLE_CELLS];

@@ -29,7 +29,7 @@ fn put_bad_input(out: &mut [u8]) -> usize
 
 fn list_numbers(out: &mut [u8], numbers: &[u32]) -> usize
     requires { Small numbers.now }
-    ensures { Prints (numbers_text (before numbers)) 0 (before out) result (after out) }
+    ensures { Prints (numbers_text numbers.now) 0 (before out) result (after out) }
 {
     let form = listing_job::form_of(numbers);
     let Form::Whole(setup) = form else {
@@ -39,7 +39,7 @@ fn list_numbers(out: &mut [u8], numbers: &[u32]) -> usize
 }
 
 fn list_input(out: &mut [u8], input: &[u8]) -> usize
-    ensures { Prints (printed (before input)) 0 (before out) result (after out) }
+    ensures { Prints (printed input.now) 0 (before out) result (after out) }
 {
     let mut store = [0u32; MAX_NUMBERS];
     let parsed = listing_numbers::read_input(&mut store, input);
@@ -54,7 +54,7 @@ fn list_input(out: &mut [u8], input: &[u8]) -> usize
 // as much of it as fits.
 pub fn list(input: &[u8], out: &mut [u8]) -> usize
     ensures prefix_len { IsPrefixLen result (after out) }
-    ensures prints { Prints (printed (before input)) 0 (before out) result (after out) }
+    ensures prints { Prints (printed input.now) 0 (before out) result (after out) }
 {
     list_input(out, input)
 }

@@ -20,7 +20,7 @@ pub fn get_tile_probabilities_at_position(
     offset: Offset,
     out: &mut [f64],
 ) -> Written
-    ensures { Normalises (before probabilities) rows cols count place offset (before out) result (after out) }
+    ensures { Normalises probabilities.now rows cols count place offset (before out) result (after out) }
 {
     let refused = normalise_refused(probabilities, rows, cols, count, place, offset, out);
     if refused != 0 {
@@ -44,7 +44,7 @@ fn change_probabilities(
     offset: Offset,
     radius: usize,
 ) -> Written
-    ensures { Changes reverse rows cols count (block_of brows bcols (before block)) place offset radius
+    ensures { Changes reverse rows cols count (block_of brows bcols block.now) place offset radius
         (before probabilities) result (after probabilities) }
 {
     let refused = step_refused(
@@ -97,7 +97,7 @@ pub fn update_probabilities(
     offset: Offset,
     radius: usize,
 ) -> Written
-    ensures { Multiplies rows cols count (block_of blockrows blockcols (before block)) place offset radius
+    ensures { Multiplies rows cols count (block_of blockrows blockcols block.now) place offset radius
         (before probabilities) result (after probabilities) }
 {
     change_probabilities(
@@ -128,7 +128,7 @@ pub fn revert_probabilities(
     offset: Offset,
     radius: usize,
 ) -> Written
-    ensures { Divides rows cols count (block_of blockrows blockcols (before block)) place offset radius
+    ensures { Divides rows cols count (block_of blockrows blockcols block.now) place offset radius
         (before probabilities) result (after probabilities) }
 {
     change_probabilities(

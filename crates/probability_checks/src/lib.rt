@@ -21,7 +21,7 @@ pub fn normalise_refused(
     offset: Offset,
     out: &[f64],
 ) -> u8
-    ensures { result ≡ refusal (normalise_checks (before plane) rows cols count place offset (before out)) }
+    ensures { result ≡ refusal (normalise_checks plane.now rows cols count place offset out.now) }
 {
     if !check_sizes::board_sides(rows, cols) {
         return rules::SHAPE;
@@ -77,7 +77,7 @@ fn sizes_refused(
     bcols: usize,
     radius: usize,
 ) -> u8
-    ensures { result ≡ refusal (influence_sizes (before plane) rows cols count (block_of brows bcols (before block)) radius) }
+    ensures { result ≡ refusal (influence_sizes plane.now rows cols count (block_of brows bcols block.now) radius) }
 {
     if !check_sizes::board_sides(rows, cols) {
         return rules::SHAPE;
@@ -113,7 +113,7 @@ pub fn step_refused(
     offset: Offset,
     radius: usize,
 ) -> u8
-    ensures { result ≡ refusal (influence_checks (before plane) rows cols count (block_of brows bcols (before block)) place offset radius) }
+    ensures { result ≡ refusal (influence_checks plane.now rows cols count (block_of brows bcols block.now) place offset radius) }
 {
     let refused = sizes_refused(plane, rows, cols, count, block, brows, bcols, radius);
     if refused != 0 {

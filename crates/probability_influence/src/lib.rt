@@ -17,14 +17,14 @@ use rules::Span;
 
 // Beyond the block the factor is 1.0.
 fn factor(factors: &[f64], j: usize) -> f64
-    ensures { result ≡ pick (ltb j (length (before factors))) (get_or (before factors) j nan) one64 }
+    ensures { result ≡ pick (ltb j (length factors.now)) (get_or factors.now j nan) one64 }
 {
     if j < factors.len() { factors[j] } else { 1.0 }
 }
 
 // The cells of one row by the block's factors for that row. Multiplying by 1.0 is a step of the text and is taken.
 fn multiply_row(row: &mut [f64], factors: &[f64])
-    ensures { after row ≡ tab (length (before row)) (λ j. multiplied_by (before factors) (get_or (before row) j nan) j) }
+    ensures { after row ≡ tab (length (before row)) (λ j. multiplied_by factors.now (get_or (before row) j nan) j) }
 {
     let mut j = 0;
     while j < row.len() {
@@ -42,7 +42,7 @@ fn quotient(p: f64, factor: f64) -> f64
 
 // Cells beyond the block are not visited.
 fn divide_row(row: &mut [f64], factors: &[f64])
-    ensures { after row ≡ tab (length (before row)) (λ j. divided_by (before factors) (get_or (before row) j nan) j) }
+    ensures { after row ≡ tab (length (before row)) (λ j. divided_by factors.now (get_or (before row) j nan) j) }
 {
     let end = places::least(row.len(), factors.len());
     let mut j = 0;
@@ -53,7 +53,7 @@ fn divide_row(row: &mut [f64], factors: &[f64])
 }
 
 fn change_row(reverse: bool, row: &mut [f64], factors: &[f64])
-    ensures { after row ≡ tab (length (before row)) (λ j. changed_entry reverse (before factors) (get_or (before row) j nan) j) }
+    ensures { after row ≡ tab (length (before row)) (λ j. changed_entry reverse factors.now (get_or (before row) j nan) j) }
 {
     if reverse {
         divide_row(row, factors);
@@ -86,7 +86,7 @@ fn change_colour(
     bcols: usize,
 )
     requires { ColourFits plane.old block.now cols brows bcols rowspan colspan }
-    ensures { after plane ≡ colour_changed reverse cols (region_in rowspan colspan) (block_of brows bcols (before block)) (before plane) }
+    ensures { after plane ≡ colour_changed reverse cols (region_in rowspan colspan) (block_of brows bcols block.now) (before plane) }
 {
     let mut i = 0;
     let mut r = rowspan.0;
@@ -116,7 +116,7 @@ pub fn change_colours(
     bcols: usize,
 )
     requires { StepFits plane.old block.now cells cols count brows bcols rowspan colspan }
-    ensures { after plane ≡ colours_changed reverse cells cols (region_in rowspan colspan) (block_of brows bcols (before block)) (before plane) }
+    ensures { after plane ≡ colours_changed reverse cells cols (region_in rowspan colspan) (block_of brows bcols block.now) (before plane) }
 {
     let entries = brows * bcols;
     let mut t = 0;

@@ -20,7 +20,7 @@ fn larger(a: f64, b: f64) -> f64
 
 // The largest, 0.0 at the least.
 fn largest(ps: &[f64]) -> f64
-    ensures { result ≡ largest_of (before ps) }
+    ensures { result ≡ largest_of ps.now }
 {
     let mut most = 0.0;
     let mut k = 0;
@@ -33,7 +33,7 @@ fn largest(ps: &[f64]) -> f64
 
 // The sum of p / most, by colour upwards from 0.0.
 fn total(ps: &[f64], most: f64) -> f64
-    ensures { result ≡ total_of most (before ps) }
+    ensures { result ≡ total_of most ps.now }
 {
     let mut sum = 0.0;
     let mut k = 0;
@@ -93,7 +93,7 @@ pub fn normalise(ps: &mut [f64], count: u32)
 // Colour t's probability at the cell `at`, for each entry t of out.
 pub fn gather(plane: &[f64], cells: usize, at: usize, out: &mut [f64])
     requires { (at < cells) × (length plane.now ≡ length out.old * cells) }
-    ensures { after out ≡ tab (length (before out)) (λ t. get_or (before plane) (t * cells + at) nan) }
+    ensures { after out ≡ tab (length (before out)) (λ t. get_or plane.now (t * cells + at) nan) }
 {
     let mut t = 0;
     while t < out.len() {
@@ -113,7 +113,7 @@ pub fn take_place(
     out: &mut [f64],
 )
     requires { PlaceFits plane.now out.old rows cols count }
-    ensures { after out ≡ probabilities_at (before plane) rows cols count place offset }
+    ensures { after out ≡ probabilities_at plane.now rows cols count place offset }
 {
     if !places::on_board(rows, cols, place, offset) {
         fill(out, 0.0);

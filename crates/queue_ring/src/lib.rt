@@ -21,7 +21,7 @@ pub fn slot_of(first: usize, i: usize) -> usize
 
 fn number_in(numbers: &[i32; rules::QUEUE_ROOM], at: usize) -> i32
     requires { at < queue_room }
-    ensures { result ≡ get_or (before numbers) at (pos 0) }
+    ensures { result ≡ get_or numbers.now at (pos 0) }
 {
     numbers[at]
 }
@@ -73,7 +73,7 @@ fn is_queued(
     place: World,
 ) -> bool
     requires { (first < queue_room) × (len ≤ queue_room) }
-    ensures { (colours : List ℕ) → result ≡ is_queued place (waiting (slots (before rows) (before cols) colours) first len) }
+    ensures { (colours : List ℕ) → result ≡ is_queued place (waiting (slots rows.now cols.now colours) first len) }
 {
     let mut i = 0;
     while i < len {

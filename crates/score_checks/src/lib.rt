@@ -12,7 +12,7 @@ use rules::Span;
 
 pub fn counted_refused(scores: &[f64], counts: &[u32], rows: usize, cols: usize, tiles: usize) -> u8
     requires { board_sides rows cols ≡ true }
-    ensures { result ≡ refusal (counted_checks (before scores) (before counts) rows cols tiles) }
+    ensures { result ≡ refusal (counted_checks scores.now counts.now rows cols tiles) }
 {
     if !check_sizes::floats_have_length(scores, rows * cols) {
         return rules::LENGTH;
@@ -31,7 +31,7 @@ pub fn counted_refused(scores: &[f64], counts: &[u32], rows: usize, cols: usize,
 
 pub fn scores_refused(scores: &[f64], counts: &[u32], rows: usize, cols: usize, tiles: usize) -> u8
     requires { board_sides rows cols ≡ true }
-    ensures { result ≡ refusal (score_checks (before scores) (before counts) rows cols tiles) }
+    ensures { result ≡ refusal (score_checks scores.now counts.now rows cols tiles) }
 {
     let refused = counted_refused(scores, counts, rows, cols, tiles);
     if refused != 0 {
@@ -52,7 +52,7 @@ pub fn spans_refused(
     rowspan: Span,
     colspan: Span,
 ) -> u8
-    ensures { result ≡ refusal (lift_score_checks (before scores) (before counts) rows cols tiles rowspan colspan) }
+    ensures { result ≡ refusal (lift_score_checks scores.now counts.now rows cols tiles rowspan colspan) }
 {
     if !check_sizes::board_sides(rows, cols) {
         return rules::SHAPE;

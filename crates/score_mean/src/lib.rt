@@ -15,7 +15,7 @@ ghost use Rattle.score_mean.specs.Fits.{CellFits};
 // Fraction = count / tiles, at a row and a column.
 fn term(squared: bool, counts: &[u32], tiles: usize, cols: usize, row: usize, col: usize) -> f64
     requires { (tile_number_fits tiles ≡ true) × (entry_of cols (cell_at row col) < length counts.now) }
-    ensures { result ≡ term_of squared (before counts) tiles (entry_of cols (cell_at row col)) }
+    ensures { result ≡ term_of squared counts.now tiles (entry_of cols (cell_at row col)) }
 {
     let fraction = counts[row * cols + col] as f64 / tiles as f64;
     if squared {
@@ -44,7 +44,7 @@ fn add_row(
     i: usize,
 ) -> f64
     requires { CellFits counts.now cols tiles r c × (2 - r ≤ i) × (i < 3) }
-    ensures { result ≡ fold (plus_term (term_of squared (before counts) tiles)) sum (box_row cols r c i) }
+    ensures { result ≡ fold (plus_term (term_of squared counts.now tiles)) sum (box_row cols r c i) }
 {
     let mut total = sum;
     let mut j = missing(c);
@@ -58,7 +58,7 @@ fn add_row(
 // The sum over the box, row by row from 0.0.
 fn box_sum(squared: bool, counts: &[u32], tiles: usize, cols: usize, r: usize, c: usize) -> f64
     requires { CellFits counts.now cols tiles r c }
-    ensures { result ≡ fold (plus_term (term_of squared (before counts) tiles)) zero64 (box_rows 3 cols r c) }
+    ensures { result ≡ fold (plus_term (term_of squared counts.now tiles)) zero64 (box_rows 3 cols r c) }
 {
     let mut total = 0.0;
     let mut i = missing(r);
@@ -72,7 +72,7 @@ fn box_sum(squared: bool, counts: &[u32], tiles: usize, cols: usize, r: usize, c
 // The mean: one division.
 pub fn box_mean(squared: bool, counts: &[u32], tiles: usize, cols: usize, r: usize, c: usize) -> f64
     requires { CellFits counts.now cols tiles r c }
-    ensures { result ≡ score_at squared (before counts) tiles cols r c }
+    ensures { result ≡ score_at squared counts.now tiles cols r c }
 {
     let cells = (3 - missing(r)) * (3 - missing(c));
     box_sum(squared, counts, tiles, cols, r, c) / cells as f64

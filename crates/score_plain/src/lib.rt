@@ -21,14 +21,14 @@ pub fn plain_score_near(
     rowspan: Span,
     colspan: Span,
 ) -> Written
-    ensures { ScoresPlain rows cols (before counts) tiles rowspan colspan (before scores) result (after scores) }
+    ensures { ScoresPlain rows cols counts.now tiles rowspan colspan (before scores) result (after scores) }
 {
     score_spans::score_spans(scores, false, counts, rows, cols, tiles, rowspan, colspan)
 }
 
 // The old scores are not asked about: none of them stays.
 fn whole_refused(scores: &[f64], counts: &[u32], rows: usize, cols: usize, tiles: usize) -> u8
-    ensures { result ≡ refusal (whole_score_checks (before scores) (before counts) rows cols tiles) }
+    ensures { result ≡ refusal (whole_score_checks scores.now counts.now rows cols tiles) }
 {
     if !check_sizes::board_sides(rows, cols) {
         return rules::SHAPE;
@@ -44,7 +44,7 @@ pub fn plain_score(
     cols: usize,
     tiles: usize,
 ) -> Written
-    ensures { ScoresWhole rows cols (before counts) tiles (before scores) result (after scores) }
+    ensures { ScoresWhole rows cols counts.now tiles (before scores) result (after scores) }
 {
     let refused = whole_refused(scores, counts, rows, cols, tiles);
     if refused != 0 {

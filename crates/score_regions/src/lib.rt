@@ -23,7 +23,7 @@ fn score_row(
     left: usize,
 )
     requires { (tile_number_fits tiles ≡ true) × (r * cols + cols ≤ length counts.now) × (left + length row.old ≤ cols) }
-    ensures { after row ≡ over_row nan (score_step squared (before counts) tiles cols) r left (before row) }
+    ensures { after row ≡ over_row nan (score_step squared counts.now tiles cols) r left (before row) }
 {
     let mut j = 0;
     while j < row.len() {
@@ -42,7 +42,7 @@ pub fn score_region(
     colspan: Span,
 )
     requires { ScoresFit scores.old counts.now cols tiles rowspan colspan }
-    ensures { after scores ≡ region_scored squared (before counts) tiles cols rowspan colspan (before scores) }
+    ensures { after scores ≡ region_scored squared counts.now tiles cols rowspan colspan (before scores) }
 {
     let mut r = rowspan.0;
     while r < rowspan.1 {

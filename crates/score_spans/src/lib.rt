@@ -27,7 +27,7 @@ pub fn score_spans(
     rowspan: Span,
     colspan: Span,
 ) -> Written
-    ensures { ScoresSpans squared rows cols (before counts) tiles rowspan colspan (before scores) result (after scores) }
+    ensures { ScoresSpans squared rows cols counts.now tiles rowspan colspan (before scores) result (after scores) }
 {
     let refused = spans_refused(scores, counts, rows, cols, tiles, rowspan, colspan);
     if refused != 0 {

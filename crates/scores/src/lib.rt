@@ -23,7 +23,7 @@ fn lay_refused(
     place: World,
     offset: Offset,
 ) -> u8
-    ensures { result ≡ refusal (lay_score_checks (before scores) (before counts) rows cols tiles place offset) }
+    ensures { result ≡ refusal (lay_score_checks scores.now counts.now rows cols tiles place offset) }
 {
     if !check_sizes::board_sides(rows, cols) {
         return rules::SHAPE;
@@ -45,7 +45,7 @@ pub fn update_feasibility(
     place: World,
     offset: Offset,
 ) -> Written
-    ensures { ScoresLay rows cols (before counts) tiles place offset (before scores) result (after scores) }
+    ensures { ScoresLay rows cols counts.now tiles place offset (before scores) result (after scores) }
 {
     let refused = lay_refused(scores, counts, rows, cols, tiles, place, offset);
     if refused != 0 {
@@ -75,7 +75,7 @@ pub fn aggregate_feasibility(
     rowspan: Span,
     colspan: Span,
 ) -> Written
-    ensures { ScoresLift rows cols (before counts) tiles rowspan colspan (before scores) result (after scores) }
+    ensures { ScoresLift rows cols counts.now tiles rowspan colspan (before scores) result (after scores) }
 {
     score_spans::score_spans(scores, true, counts, rows, cols, tiles, rowspan, colspan)
 }

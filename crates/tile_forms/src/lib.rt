@@ -13,7 +13,7 @@ const TILE_SIDE: usize = 3;
 // A cell of the sample, and 0 past it.
 fn sample_cell(sample: &[u8], rows: usize, cols: usize, r: usize, c: usize) -> u8
     requires { Sample sample.now rows cols }
-    ensures { result ≡ sample_cell (before sample) rows cols r c }
+    ensures { result ≡ sample_cell sample.now rows cols r c }
 {
     if rows <= r {
         return 0;
@@ -43,7 +43,7 @@ fn window_tile(
     c: usize,
 ) -> [u8; rules::TILE_CELLS]
     requires { Sample sample.now rows cols × (r ≤ max_tiles) × (c ≤ max_tiles) }
-    ensures { result ≡ window_tile (before sample) rows cols r c }
+    ensures { result ≡ window_tile sample.now rows cols r c }
 {
     let mut tile = [0u8; rules::TILE_CELLS];
     let mut k = 0;
@@ -126,7 +126,7 @@ pub fn variant_of(
     v: usize,
 ) -> [u8; rules::TILE_CELLS]
     requires { Sample sample.now rows cols × (v ≤ max_tiles) }
-    ensures { result ≡ variant (before sample) rows cols rotations reflections v }
+    ensures { result ≡ variant sample.now rows cols rotations reflections v }
 {
     let n = forms_of(rotations, reflections);
     let wide = starts_along(cols);

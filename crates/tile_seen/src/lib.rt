@@ -28,7 +28,7 @@ fn number(n: u16) -> usize
 }
 
 pub fn bucket_of(tile: &[u8; rules::TILE_CELLS]) -> usize
-    ensures { (result ≡ bucket_of (λ k. get_or (before tile) k 0)) × (result < buckets) }
+    ensures { (result ≡ bucket_of (λ k. get_or tile.now k 0)) × (result < buckets) }
 {
     let mut bucket = 0;
     let mut k = 0;
@@ -42,7 +42,7 @@ pub fn bucket_of(tile: &[u8; rules::TILE_CELLS]) -> usize
 // Tile n of a list equals a tile. The comparison leaves at the first cell that differs.
 fn same_tile(tiles: &[u8], n: usize, tile: &[u8; rules::TILE_CELLS]) -> bool
     requires { n < tiles_in tiles.now }
-    ensures { result ≡ same_tile (before tiles) (before tile) n }
+    ensures { result ≡ same_tile tiles.now tile.now n }
 {
     let at = n * rules::TILE_CELLS;
     let mut k = 0;
@@ -64,7 +64,7 @@ pub fn has_tile(
     bucket: usize,
 ) -> bool
     requires { Chained tiles.now heads.now nexts.now × (bucket ≡ bucket_of (λ k. get_or tile.now k 0)) × (bucket < buckets) }
-    ensures { result ≡ has_tile (before tiles) (before tile) }
+    ensures { result ≡ has_tile tiles.now tile.now }
 {
     let mut last = number(heads[bucket]);
     while last != 0 {

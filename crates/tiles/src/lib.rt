@@ -21,7 +21,7 @@ pub use membership::convert_tile_to_membership_booleans;
 
 fn put_tile(store: &mut [u8], at: usize, tile: &[u8; rules::TILE_CELLS])
     requires { (at + 9 ≤ length store.old) × (length tile.now ≡ 9) }
-    ensures { after store ≡ paste (before store) at (before tile) 9 }
+    ensures { after store ≡ paste (before store) at tile.now 9 }
 {
     let mut k = 0;
     while k < rules::TILE_CELLS {
@@ -40,7 +40,7 @@ fn add_tile(
     tile: &[u8; rules::TILE_CELLS],
 ) -> usize
     requires { (n ≤ tiles_in store.old) × (n < max_tiles) × (length tile.now ≡ 9) × Chained (take (n * 9) store.old) heads.old nexts.old }
-    ensures { Adds (before store) n (before tile) result (after store) (after heads) (after nexts) }
+    ensures { Adds (before store) n tile.now result (after store) (after heads) (after nexts) }
 {
     let at = n * rules::TILE_CELLS;
     let bucket = tile_seen::bucket_of(tile);
@@ -66,7 +66,7 @@ fn gather(
     reflections: bool,
 ) -> TileNumber
     requires { Sample source.now rows cols }
-    ensures { Gathers (extracted (before source) rows cols rotations reflections) (before store) result (after store) }
+    ensures { Gathers (extracted source.now rows cols rotations reflections) (before store) result (after store) }
 {
     let total = tile_forms::variants_of(rows, cols, rotations, reflections);
     let room = store.len() / rules::TILE_CELLS;
@@ -87,7 +87,7 @@ fn gather(
 }
 
 fn sample_refusal(source: &[u8], rows: usize, cols: usize, count: u32) -> u8
-    ensures { result ≡ refusal (sample_checks (before source) rows cols count) }
+    ensures { result ≡ refusal (sample_checks source.now rows cols count) }
 {
     if !check_sizes::sample_sides(rows, cols) {
         return rules::SHAPE;
@@ -115,7 +115,7 @@ pub fn extract_tiles(
     reflections: bool,
     store: &mut [u8],
 ) -> TileNumber
-    ensures { Extracts (before source) rows cols count rotations reflections (before store) result (after store) }
+    ensures { Extracts source.now rows cols count rotations reflections (before store) result (after store) }
 {
     let refused = sample_refusal(source, rows, cols, count);
     if refused != 0 {
