@@ -2,12 +2,8 @@
 -- Assumes nothing.
 use mathlib.Core.Path.{refl}
 use Rattle.rules.specs.Forced.{queue_of, padded}
-use Rattle.queue_entries.proofs.new.Statement.{statement}
-use Rattle.queue_entries.proofs.new.Tie as tie
+use Rattle.queue_entries.proofs.new.Goals as goal
 
-returns : tie.Need-returns
+pub returns : goal.returns
 unfolding queue_of padded
 returns c = refl
-
-pub new_spec : {M : Type 1} → statement M
-new_spec = tie.close (tie.spec returns)
