@@ -11,18 +11,18 @@ use Rattle.queue_entries.proofs.add_positions.Goals as goal
 pub loop-i-init : goal.loop-i-init
 loop-i-init c =
     let q = c.args.queue in
-    grows_from q _ _ _ c.rest_from-grown.ensures (omega (arith, length-queued q c.well_formed.0.1.1.0.1.0.1 c.requires.in-room))
+    grows_from q _ _ _ c.rest_from-grown.ensures (omega (arith, length-queued q (omega (arith, c.well_formed)) c.requires.in-room))
 
 pub returns-in_default : goal.returns-in_default
 unfolding offered
 returns-in_default c =
     grows-too-far c.args.queue c.args.positions.entries _ _ _ no_position c.loop-i-test.true
-    (omega (arith, c.well_formed.1.0.1.1.0.1.0.1, c.requires.few)) c.loop-i.invariant _ c.add_position-step.ensures _ c.in_default.is
+    (omega (arith, c.well_formed, c.requires.few)) c.loop-i.invariant _ c.add_position-step.ensures _ c.in_default.is
 
 pub loop-i-preserved : goal.loop-i-preserved
 loop-i-preserved c =
     grows-on c.args.queue c.args.positions.entries _ _ _ no_position c.loop-i-test.true
-    (omega (arith, c.well_formed.1.0.1.1.0.1.0.1, c.requires.few)) c.loop-i.invariant _ c.add_position-step.ensures c.in-Done.is
+    (omega (arith, c.well_formed, c.requires.few)) c.loop-i.invariant _ c.add_position-step.ensures c.in-Done.is
 
 pub returns : goal.returns
 unfolding offered

@@ -12,7 +12,7 @@ use Rattle.queue_entries.proofs.is_queued.Goals as goal
 
 module _ (c : Start) where
   long : length c.args.queue.entries ≡ queue_room
-  long = c.well_formed.0.1.1.0.1.0.1
+  long = omega (arith, c.well_formed)
 
 pub loop-i-init : goal.loop-i-init
 loop-i-init c = refl

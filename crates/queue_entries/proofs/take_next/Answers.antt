@@ -10,7 +10,7 @@ use Rattle.queue_entries.proofs.take_next.Goals.{Start}
 use Rattle.queue_entries.proofs.take_next.Goals as goal
 
 long : (c : Start) → length c.args.queue.entries ≡ queue_room
-long c = c.well_formed.0.1.1.0.1.0.1
+long c = omega (arith, c.well_formed)
 
 pub returns-then-queue-eq0 : goal.returns-then-queue-eq0
 returns-then-queue-eq0 c = out_none c.before.before.before.args.queue _ c.before.if-queue-eq0.true c.new-left.ensures
