@@ -10,10 +10,10 @@ use Rattle.base.proofs.Signs.{Reads, given, counted, add-fits, added}
 use Rattle.rules.specs.Places.{extension_by}
 use Rattle.rules.specs.declared.Offset.{Offset}
 use Rattle.places.proofs.Indices.{offset-low}
-use Rattle.place_extension.proofs.pads.offset_after.Statement.{statement}
-use Rattle.place_extension.proofs.pads.offset_after.Tie as tie
+use Rattle.place_extension.proofs.pads.offset_after.Goals.{Start}
+use Rattle.place_extension.proofs.pads.offset_after.Goals as goal
 
-module _ (c : tie.Start) where
+module _ (c : Start) where
   row_is : Reads w32 (of_z w32 c.args.offset.0) c.args.offset.0 1000001
   row_is = given w32 (offset-low c.args.offset c.requires.0).0 tt
 
@@ -26,25 +26,16 @@ module _ (c : tie.Start) where
   top-is : Reads w32 c.args.pads.top (pos c.args.pads.top) 3000001
   top-is = counted w32 (omega (arith, c.requires.2)) tt
 
-cast-t5 : tie.Need-overflow-cast-t5
-cast-t5 c = search rules
+pub overflow_add-result : goal.overflow_add-result
+overflow_add-result c = let s = c.before.before in add-fits (row_is s) (left_is s) tt
 
-add-t6 : tie.Need-overflow-add-t6
-add-t6 c = let s = c.before.before in add-fits (row_is s) (left_is s) tt
-
-cast-t7 : tie.Need-overflow-cast-t7
-cast-t7 c = search rules
-
-add-t8 : tie.Need-overflow-add-t8
-add-t8 c = let s = c.before.before.before.before in add-fits (col-is s) (top-is s) tt
+pub overflow_add-result-2 : goal.overflow_add-result-2
+overflow_add-result-2 c = let s = c.before.before.before.before in add-fits (col-is s) (top-is s) tt
 
 moved : {x y z u : ℤ} → x ≡ z → y ≡ u → ◌≡◌ {A = Offset} (record { 0 = x; 1 = y }) (record { 0 = z; 1 = u })
 moved e f = rw (e, f)
 
-returns : tie.Need-returns
+pub returns : goal.returns
 unfolding extension_by
 returns c =
     let s = c.before.before.before.before in moved (added (row_is s) (left_is s) tt).is (added (col-is s) (top-is s) tt).is
-
-pub offset-after-spec : {M : Type 1} → statement M
-offset-after-spec = tie.close (tie.spec cast-t5 add-t6 cast-t7 add-t8 returns)
