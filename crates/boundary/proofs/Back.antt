@@ -2,7 +2,7 @@
 -- nothing.
 use Prim.Native.Nat.{ℕ}
 use mathlib.Core.Path.{◌≡◌, sym, ◌∙◌, ap, subst}
-use denote.Ref.{Bor}
+use denote.MutBor.{MutBor}
 use Rattle.base.specs.Refusal.{Gives}
 use Rattle.base.specs.Lent.{Lent}
 use Rattle.base.proofs.Chain.{gives-coincide}
@@ -36,5 +36,5 @@ numbered-decides number promise one r s l m x y =
     (x.numbers ∙ ap number e.0 ∙ sym y.numbers, e.1)
 
 -- lent memory, as it is when a function begins and when it ends
-abbrev pub lent : {A : Type 0} → Bor A → Bor A → Lent A
+abbrev pub lent : {A : Type 0} → MutBor A → MutBor A → Lent A
 lent first last = record { entry = first; exit = last }

@@ -15,14 +15,14 @@ abbrev pub wide : ℤ → ℕ
 wide z = of_z w64 (to_z w32 (of_z w32 z))
 
 pub widened : {z : ℤ} → SFits w32 z → Reads w64 (wide z) z (2 ^ 31)
-widened {z} f = record { is = rw (to_z-of_z f) (to_z-of_z (sfits_widen tt f)); low = f.sfits }
+widened {z} f = record { is = rw (to_z-of_z {w = w32} f) (to_z-of_z {w = w64} (sfits_widen {w = w32} {w' = w64} tt f)); low = f.sfits }
 
 pub cast_fits : {z : ℤ} → SFits w32 z → SFits w64 (to_z w32 (of_z w32 z))
-cast_fits f = rw (to_z-of_z f) (sfits_widen tt f)
+cast_fits f = rw (to_z-of_z {w = w32} f) (sfits_widen {w = w32} {w' = w64} tt f)
 
 -- a signed number that is handed on to a call, and two of them
 pub same : {z : ℤ} → mag z < 2 ^ 31 → to_z w32 (of_z w32 z) ≡ z
-same h = to_z-of_z (record { sfits = h })
+same h = to_z-of_z {w = w32} (record { sfits = h })
 
 pub same-two : {A : Type 0} (f : ℤ → ℤ → A) (x y : ℤ) → mag x < 2 ^ 31 → mag y < 2 ^ 31 → f (to_z w32 (of_z w32 x)) (to_z w32 (of_z w32 y)) ≡ f x y
 same-two f x y h k = ap (λ (z : ℤ). f z (to_z w32 (of_z w32 y))) (same {z = x} h) ∙ ap (f x) (same {z = y} k)
