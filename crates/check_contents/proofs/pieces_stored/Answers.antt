@@ -1,0 +1,23 @@
+-- `check_contents::pieces_stored` meets its contract. The loop's invariant: the answer so far is the test of every cell passed. Assumes nothing.
+use Rattle.base.specs.Counting.{every}
+use Rattle.base.proofs.Counted.{every-done}
+use native.Mathlib.Omega.{arith}
+use Rattle.check_sizes.proofs.Sides.{count_most}
+use Rattle.check_contents.proofs.Turn.{every-turn}
+use Rattle.rules.specs.Tests.{pieces_stored}
+use borrow.Author.Rules.{rules}
+use Rattle.check_contents.proofs.pieces_stored.Goals as goal
+
+pub overflow_add-most : goal.overflow_add-most
+overflow_add-most c = omega (arith, count_most _ c.before.requires)
+
+pub loop-k-init : goal.loop-k-init
+unfolding every
+loop-k-init c = search rules
+
+pub loop-k-preserved : goal.loop-k-preserved
+loop-k-preserved c = (search rules, every-turn _ c.before.before.before.before.loop-k.invariant.1 c.before.piece_stored.ensures c.and_too-fine.ensures)
+
+pub returns : goal.returns
+unfolding pieces_stored
+returns c = every-done _ c.before.loop-k.invariant.0 c.loop-k-test.false c.before.loop-k.invariant.1
