@@ -1,10 +1,8 @@
 -- `copy_floats::fill_f64` meets its contract: a sweep, in which each entry becomes 1.0. Assumes nothing.
 use Prim.Native.Nat.{◌-◌}
-use mathlib.Core.Path.{refl}
 use lib.ListN.{length}
 use lib.Ieee.{nan}
-use borrow.Author.Rules.{rules}
-use Rattle.base.proofs.Sweep.{Sweep, sweep-none, sweep-turn, sweep-all}
+use Rattle.base.proofs.Sweep.{Sweep}
 use Rattle.rules.specs.Floats.{one64}
 use Rattle.copy_floats.proofs.fill_f64.Given as goal
 

@@ -1,10 +1,7 @@
 -- `copy_floats::lay_row_f64` meets its contract: a sweep along the part, in which each entry becomes the row's. Assumes nothing.
-use Prim.Native.Nat.{◌-◌}
 use mathlib.Core.Path.{refl}
-use lib.ListN.{length, get_or}
-use lib.Ieee.{nan}
 use borrow.Author.Rules.{rules}
-use Rattle.base.proofs.Sweep.{Sweep, sweep-none, sweep-turn}
+use Rattle.base.proofs.Sweep.{sweep-none, sweep-turn}
 use Rattle.copy_checks.proofs.Copied.{row_is}
 use Rattle.copy_floats.proofs.lay_row_f64.Goals as goal
 
@@ -12,7 +9,7 @@ pub loop-j-init : goal.loop-j-init
 loop-j-init c = sweep-none
 
 pub loop-j-preserved : goal.loop-j-preserved
-loop-j-preserved c = sweep-turn c.before.before.loop-j.invariant (search rules) refl
+loop-j-preserved c = sweep-turn c.loop-j.invariant (search rules) refl
 
 pub returns : goal.returns
-returns c = row_is c.before.loop-j.invariant (search rules) (search rules)
+returns c = row_is c.loop-j.invariant (search rules) (search rules)

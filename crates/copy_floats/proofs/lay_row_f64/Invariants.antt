@@ -1,11 +1,8 @@
 -- `copy_floats::lay_row_f64` meets its contract: a sweep along the part, in which each entry becomes the row's. Assumes nothing.
 use Prim.Native.Nat.{◌-◌}
-use mathlib.Core.Path.{refl}
 use lib.ListN.{length, get_or}
 use lib.Ieee.{nan}
-use borrow.Author.Rules.{rules}
-use Rattle.base.proofs.Sweep.{Sweep, sweep-none, sweep-turn}
-use Rattle.copy_checks.proofs.Copied.{row_is}
+use Rattle.base.proofs.Sweep.{Sweep}
 use Rattle.copy_floats.proofs.lay_row_f64.Given as goal
 
 abbrev pub invariant-loop-j : goal.invariant-loop-j

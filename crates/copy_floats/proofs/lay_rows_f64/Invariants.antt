@@ -1,13 +1,8 @@
 -- `copy_floats::lay_rows_f64` meets its contract: a loop over a region of the larger plane, in which each row's part becomes that row.
 -- Assumes nothing.
-use Prim.Native.Nat.{◌-◌, ◌≤◌}
-use native.Mathlib.Omega.{arith}
+use Prim.Native.Nat.{◌-◌}
 use lib.Ieee.{nan}
-use borrow.Author.Rules.{rules}
-use Rattle.check_sizes.proofs.Sides.{board-cols}
-use Rattle.rules.specs.Places.{new_cols}
-use Rattle.copy_checks.specs.Laid.{rows_laid}
-use Rattle.copy_checks.proofs.Copied.{Laying, laid-start, NextRow, next_row, laid-turn, laid_done}
+use Rattle.copy_checks.proofs.Copied.{Laying}
 use Rattle.copy_floats.proofs.lay_rows_f64.Given as goal
 
 abbrev pub invariant-loop-i : goal.invariant-loop-i

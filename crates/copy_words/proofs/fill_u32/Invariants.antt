@@ -1,9 +1,7 @@
 -- `copy_words::fill_u32` meets its contract: a sweep, in which each entry becomes 1. Assumes nothing.
 use Prim.Native.Nat.{◌-◌}
-use mathlib.Core.Path.{refl}
 use lib.ListN.{length}
-use borrow.Author.Rules.{rules}
-use Rattle.base.proofs.Sweep.{Sweep, sweep-none, sweep-turn, sweep-all}
+use Rattle.base.proofs.Sweep.{Sweep}
 use Rattle.copy_words.proofs.fill_u32.Given as goal
 
 abbrev pub invariant-loop-k : goal.invariant-loop-k

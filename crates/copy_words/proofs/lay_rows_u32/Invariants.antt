@@ -1,12 +1,7 @@
 -- `copy_words::lay_rows_u32` meets its contract: a loop over a region of the larger plane, in which each row's part becomes that row.
 -- Assumes nothing.
-use Prim.Native.Nat.{◌-◌, ◌≤◌}
-use native.Mathlib.Omega.{arith}
-use borrow.Author.Rules.{rules}
-use Rattle.check_sizes.proofs.Sides.{board-cols}
-use Rattle.rules.specs.Places.{new_cols}
-use Rattle.copy_checks.specs.Laid.{rows_laid}
-use Rattle.copy_checks.proofs.Copied.{Laying, laid-start, NextRow, next_row, laid-turn, laid_done}
+use Prim.Native.Nat.{◌-◌}
+use Rattle.copy_checks.proofs.Copied.{Laying}
 use Rattle.copy_words.proofs.lay_rows_u32.Given as goal
 
 abbrev pub invariant-loop-i : goal.invariant-loop-i

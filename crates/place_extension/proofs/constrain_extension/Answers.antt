@@ -1,14 +1,12 @@
 -- `place_extension::constrain_extension` meets its contract: a refusal is handed on, then the box is asked, then the pads are held to it.
 -- Assumes nothing.
-use borrow.Author.Rules.{rules}
 use mathlib.Core.Path.{sym, ◌∙◌, ap, subst}
 use Rattle.base.proofs.Chain.{chain}
 use Rattle.rules.proofs.Answered.{answers}
 use Rattle.rules.specs.Places.{boxed_extension, extension_by, boxed_pads}
-use Rattle.place_extension.specs.Given.{Reached, PadsIn}
+use Rattle.place_extension.specs.Given.{PadsIn}
 use Rattle.place_extension.proofs.Edges.{pads-low, boxed-low}
 use Rattle.place_extension.proofs.Reach.{reached}
-use Rattle.place_extension.proofs.constrain_extension.Goals.{After-pads_of-wanted, Else-not-box_fits}
 use Rattle.place_extension.proofs.constrain_extension.Goals as goal
 
 pub returns-then-refused-ne0 : goal.returns-then-refused-ne0
@@ -19,28 +17,20 @@ pub returns-then-not-box_fits : goal.returns-then-not-box_fits
 unfolding boxed_extension
 returns-then-not-box_fits c = search (chain, answers) depth 20 fits 5000
 
-past : (c : Else-not-box_fits)
-    → let a = c.before.before.before.before.args in
-    Reached a.rows a.cols a.offset a.place a.radius
-past c = let d = c.before.before in reached _ _ _ _ _ (sym d.before.extension_refused-refused.ensures ∙ d.if-refused-ne0.false)
-
 pub pads_of-wanted-requires : goal.pads_of-wanted-requires
-pads_of-wanted-requires c = past c
-
-small : (c : After-pads_of-wanted) → PadsIn c.pads_of-wanted.result
-small c = subst PadsIn (sym c.pads_of-wanted.ensures) (pads-low _ _ _ _ _ (past c.before))
+pads_of-wanted-requires c = reached _ _ _ _ _ (sym c.extension_refused-refused.ensures ∙ c.if-refused-ne0.false)
 
 pub constrain_pads-granted-requires : goal.constrain_pads-granted-requires
-constrain_pads-granted-requires c = ((past c.before).sides, small c)
+constrain_pads-granted-requires c = ((reached _ _ _ _ _ (sym c.extension_refused-refused.ensures ∙ c.if-refused-ne0.false)).sides, subst PadsIn (sym c.pads_of-wanted.ensures) (pads-low _ _ _ _ _ (reached _ _ _ _ _ (sym c.extension_refused-refused.ensures ∙ c.if-refused-ne0.false))))
 
 pub extension_by-requires : goal.extension_by-requires
 extension_by-requires c =
-    ((past c.before.before).fitting, subst PadsIn (sym c.constrain_pads-granted.ensures) (boxed-low _ _ _ _ _ (small c.before)))
+    ((reached _ _ _ _ _ (sym c.extension_refused-refused.ensures ∙ c.if-refused-ne0.false)).fitting, subst PadsIn (sym c.constrain_pads-granted.ensures) (boxed-low _ _ _ _ _ (subst PadsIn (sym c.pads_of-wanted.ensures) (pads-low _ _ _ _ _ (reached _ _ _ _ _ (sym c.extension_refused-refused.ensures ∙ c.if-refused-ne0.false))))))
 
 pub returns : goal.returns
 unfolding boxed_extension
 returns c =
-    let a = c.before.before.before.before.before.before.before.args in
-    let held = c.before.constrain_pads-granted.ensures ∙ ap (boxed_pads a.bounds a.rows a.cols a.offset) c.before.before.pads_of-wanted.ensures in
+    let a = c.args in
+    let held = c.constrain_pads-granted.ensures ∙ ap (boxed_pads a.bounds a.rows a.cols a.offset) c.pads_of-wanted.ensures in
     let given = c.extension_by.ensures ∙ ap (extension_by a.offset) held in
     search (chain, answers) depth 20 fits 5000

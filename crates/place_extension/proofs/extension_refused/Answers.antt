@@ -1,6 +1,5 @@
 -- `place_extension::extension_refused` meets its contract: the sides are asked first, then the radius and the place.
 -- Assumes nothing.
-use borrow.Author.Rules.{rules}
 use Rattle.base.proofs.Chain.{chain}
 use Rattle.place_extension.proofs.extension_refused.Goals as goal
 

@@ -1,6 +1,5 @@
 -- `place_extension::pads::boxed_after` meets its contract: each sum fits 64 bits, and stands for the definition's.
 -- Assumes nothing.
-use borrow.Author.Rules.{rules}
 use Prim.Native.Nat.{ℕ, ◌-◌}
 use mathlib.Core.Path.{◌∙◌, ap}
 use Rattle.base.specs.Whole.{clip}
@@ -35,8 +34,7 @@ overflow_sub-last-3 c = sub-fits (added (last-is c.ranges.offset c.requires.0) (
 pub returns : goal.returns
 unfolding boxed_after
 returns c =
-    let s = c.before.before in
     c.less.ensures
-    ∙ ap (λ (n : ℕ). s.args.pad - n)
-    (c.before.clip_to.ensures
-    ∙ ap clip (subbed (added (last-is s.ranges.offset s.requires.0) (pad-is s.requires.1) tt) (widened s.ranges.most) tt).is)
+    ∙ ap (λ (n : ℕ). c.args.pad - n)
+    (c.clip_to.ensures
+    ∙ ap clip (subbed (added (last-is c.ranges.offset c.requires.0) (pad-is c.requires.1) tt) (widened c.ranges.most) tt).is)

@@ -1,6 +1,5 @@
 -- `place_extension::pads::boxed_before` meets its contract: each difference fits 64 bits, and stands for the definition's.
 -- Assumes nothing.
-use borrow.Author.Rules.{rules}
 use Prim.Native.Nat.{ℕ, ◌-◌}
 use mathlib.Core.Path.{◌∙◌, ap}
 use Rattle.base.specs.Whole.{clip}
@@ -28,8 +27,7 @@ overflow_sub-least c = sub-fits (widened c.ranges.least) (subbed (first-is c.ran
 pub returns : goal.returns
 unfolding boxed_before
 returns c =
-    let s = c.before.before in
     c.less.ensures
-    ∙ ap (λ (n : ℕ). s.args.pad - n)
-    (c.before.clip_to.ensures
-    ∙ ap clip (subbed (widened s.ranges.least) (subbed (first-is s.ranges.offset) (pad-is s.requires) tt) tt).is)
+    ∙ ap (λ (n : ℕ). c.args.pad - n)
+    (c.clip_to.ensures
+    ∙ ap clip (subbed (widened c.ranges.least) (subbed (first-is c.ranges.offset) (pad-is c.requires) tt) tt).is)

@@ -1,7 +1,6 @@
 -- `place_extension::pads::extension_by` meets its contract: the pads and the new offset, put together. Assumes nothing.
 use mathlib.Core.Path.{◌≡◌}
 use mathlib.Core.Bool.{Bool}
-use borrow.Author.Rules.{rules}
 use Rattle.rules.specs.Places.{extension_by}
 use Rattle.rules.specs.declared.Offset.{Offset}
 use Rattle.rules.specs.declared.Pads.{Pads}

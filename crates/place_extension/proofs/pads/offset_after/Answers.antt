@@ -1,36 +1,35 @@
 -- `place_extension::pads::offset_after` meets its contract: a pad fits 32 bits, and so does its sum with the offset.
 -- Assumes nothing.
 use native.Mathlib.Omega.{arith}
+use Prim.Native.Nat.{ℕ, ◌≤◌}
+use mathlib.Core.Bool.{true}
 use mathlib.Core.Path.{◌≡◌}
 use lib.IntN.{ℤ, pos}
 use mir.Syntax.{w32}
 use mir.Val.{of_z}
-use borrow.Author.Rules.{rules}
 use Rattle.base.proofs.Signs.{Reads, given, counted, add-fits, added}
+use Rattle.rules.specs.Tests.{offset_fits}
 use Rattle.rules.specs.Places.{extension_by}
+use Rattle.place_extension.specs.Given.{max_pad}
 use Rattle.rules.specs.declared.Offset.{Offset}
 use Rattle.places.proofs.Indices.{offset-low}
-use Rattle.place_extension.proofs.pads.offset_after.Goals.{Start}
 use Rattle.place_extension.proofs.pads.offset_after.Goals as goal
 
-module _ (c : Start) where
-  row_is : Reads w32 (of_z w32 c.args.offset.0) c.args.offset.0 1000001
-  row_is = given w32 (offset-low c.args.offset c.requires.0).0 tt
+-- the numbers that are added, as the bits stand for them
+row_is : (o : Offset) → offset_fits o ≡ true → Reads w32 (of_z w32 o.0) o.0 1000001
+row_is o h = given w32 (offset-low o h).0 tt
 
-  col-is : Reads w32 (of_z w32 c.args.offset.1) c.args.offset.1 1000001
-  col-is = given w32 (offset-low c.args.offset c.requires.0).1 tt
+col-is : (o : Offset) → offset_fits o ≡ true → Reads w32 (of_z w32 o.1) o.1 1000001
+col-is o h = given w32 (offset-low o h).1 tt
 
-  left_is : Reads w32 c.args.pads.left (pos c.args.pads.left) 3000001
-  left_is = counted w32 (omega (arith, c.requires.1)) tt
-
-  top-is : Reads w32 c.args.pads.top (pos c.args.pads.top) 3000001
-  top-is = counted w32 (omega (arith, c.requires.2)) tt
+pad-is : (n : ℕ) → n ≤ max_pad → Reads w32 n (pos n) 3000001
+pad-is n h = counted w32 (omega arith) tt
 
 pub overflow_add-result : goal.overflow_add-result
-overflow_add-result c = let s = c.before.before in add-fits (row_is s) (left_is s) tt
+overflow_add-result c = add-fits (row_is c.args.offset c.requires.0) (pad-is c.args.pads.left c.requires.1) tt
 
 pub overflow_add-result-2 : goal.overflow_add-result-2
-overflow_add-result-2 c = let s = c.before.before.before.before in add-fits (col-is s) (top-is s) tt
+overflow_add-result-2 c = add-fits (col-is c.args.offset c.requires.0) (pad-is c.args.pads.top c.requires.2) tt
 
 moved : {x y z u : ℤ} → x ≡ z → y ≡ u → ◌≡◌ {A = Offset} (record { 0 = x; 1 = y }) (record { 0 = z; 1 = u })
 moved e f = rw (e, f)
@@ -38,4 +37,6 @@ moved e f = rw (e, f)
 pub returns : goal.returns
 unfolding extension_by
 returns c =
-    let s = c.before.before.before.before in moved (added (row_is s) (left_is s) tt).is (added (col-is s) (top-is s) tt).is
+    moved
+    (added (row_is c.args.offset c.requires.0) (pad-is c.args.pads.left c.requires.1) tt).is
+    (added (col-is c.args.offset c.requires.0) (pad-is c.args.pads.top c.requires.2) tt).is

@@ -1,6 +1,5 @@
 -- `place_extension::pads::pad_after` meets its contract: each sum fits 64 bits, and stands for the definition's.
 -- Assumes nothing.
-use borrow.Author.Rules.{rules}
 use mathlib.Core.Path.{◌∙◌, ap}
 use Rattle.base.specs.Whole.{clip}
 use Rattle.rules.specs.Places.{pad_after}
@@ -34,6 +33,5 @@ overflow_sub-coordinate c = sub-fits (added (widened c.ranges.coordinate) (reach
 pub returns : goal.returns
 unfolding pad_after
 returns c =
-    let s = c.before in
     c.clip_to.ensures
-    ∙ ap clip (subbed (added (widened s.ranges.coordinate) (reach-is s.requires.1) tt) (last-is s.ranges.offset s.requires.0) tt).is
+    ∙ ap clip (subbed (added (widened c.ranges.coordinate) (reach-is c.requires.1) tt) (last-is c.ranges.offset c.requires.0) tt).is

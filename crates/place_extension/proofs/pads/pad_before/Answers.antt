@@ -1,6 +1,5 @@
 -- `place_extension::pads::pad_before` meets its contract: each difference fits 64 bits, and stands for the definition's.
 -- Assumes nothing.
-use borrow.Author.Rules.{rules}
 use mathlib.Core.Path.{◌∙◌, ap}
 use Rattle.base.specs.Whole.{clip}
 use Rattle.rules.specs.Places.{pad_before}
@@ -28,6 +27,5 @@ overflow_sub-first-2 c = sub-fits (first-is c.ranges.offset) (subbed (widened c.
 pub returns : goal.returns
 unfolding pad_before
 returns c =
-    let s = c.before in
     c.clip_to.ensures
-    ∙ ap clip (subbed (first-is s.ranges.offset) (subbed (widened s.ranges.coordinate) (reach-is s.requires) tt) tt).is
+    ∙ ap clip (subbed (first-is c.ranges.offset) (subbed (widened c.ranges.coordinate) (reach-is c.requires) tt) tt).is

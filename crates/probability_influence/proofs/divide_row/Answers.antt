@@ -1,0 +1,40 @@
+-- `probability_influence::divide_row` meets its contract: a sweep that ends where the row or its factors end. Assumes nothing.
+use Prim.Native.Nat.{◌<◌}
+use mathlib.Core.Path.{ap, ◌∙◌}
+use lib.ListN.{length, get_or}
+use lib.Ieee.{Float, nan}
+use Rattle.base.proofs.Sweep.{sweep-none, sweep-turn, sweep-skip, sweep-all, sweep-old}
+use borrow.Author.Tests.{lt-ltb, le-ltb}
+use Rattle.base.proofs.Bools.{pick_no, and-no-left}
+use native.Mathlib.Omega.{arith}
+use native.Mathlib.Nat.{le_refl}
+use Rattle.base.specs.Counting.{pick}
+use lib.Ieee.{ne}
+use Rattle.rules.specs.Floats.{over, zero64}
+use Rattle.probability_influence.specs.Step.{divided_by}
+use borrow.Author.Rules.{rules}
+use Rattle.probability_influence.proofs.divide_row.Goals as goal
+
+pub loop-j-init : goal.loop-j-init
+loop-j-init c = (omega arith, sweep-none)
+
+pub loop-j-preserved : goal.loop-j-preserved
+unfolding divided_by
+loop-j-preserved c = let l = c.before.before.before.before in
+    let s = l.before.before.before.before.args in
+    let h : l.loop-j.j < length s.row.now = search rules in
+    let b : l.loop-j.j < length s.factors.now = search rules in
+    let f = get_or s.factors.now l.loop-j.j nan in (
+      search rules,
+      sweep-turn l.loop-j.invariant.1 h
+          (c.quotient.ensures
+          ∙ ap (λ (p : Float). pick (ne f zero64) (over p f) p) (sweep-old l.loop-j.invariant.1 l.loop-j.j (le_refl _) h)
+          ∙ rw (lt-ltb _ _ b)),
+    )
+
+pub returns : goal.returns
+unfolding divided_by
+returns c = let l = c.before in
+    let s = l.before.before.before.before.args in
+    sweep-all (sweep-skip l.loop-j.invariant.1 l.loop-j.invariant.1.reach (le_refl _)
+    (λ j h b. pick_no _ _ _ (and-no-left _ _ (le-ltb j (length s.factors.now) (omega arith))))) (le_refl _)

@@ -1,0 +1,26 @@
+-- `probability_influence::multiply_row` meets its contract: a sweep. Assumes nothing.
+use Prim.Native.Nat.{◌<◌}
+use mathlib.Core.Path.{ap, ◌∙◌}
+use lib.ListN.{length, get_or}
+use lib.Ieee.{Float, nan}
+use Rattle.base.proofs.Sweep.{sweep-none, sweep-turn, sweep-all, sweep-old}
+use native.Mathlib.Nat.{le_refl}
+use Rattle.rules.specs.Floats.{times}
+use Rattle.probability_influence.specs.Step.{multiplied_by}
+use borrow.Author.Rules.{rules}
+use Rattle.probability_influence.proofs.multiply_row.Goals as goal
+
+pub loop-j-init : goal.loop-j-init
+loop-j-init c = sweep-none
+
+pub loop-j-preserved : goal.loop-j-preserved
+unfolding multiplied_by
+loop-j-preserved c = let l = c.before.before.before in
+    let s = l.before.before.before.args in
+    let h : l.loop-j.j < length s.row.now = search rules in
+    sweep-turn l.loop-j.invariant h
+    (ap (λ (p : Float). times p c.factor.result) (sweep-old l.loop-j.invariant l.loop-j.j (le_refl _) h)
+    ∙ ap (λ (x : Float). times (get_or s.row.now l.loop-j.j nan) x) c.factor.ensures)
+
+pub returns : goal.returns
+returns c = sweep-all c.before.loop-j.invariant (search rules)
