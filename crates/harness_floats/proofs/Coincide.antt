@@ -6,8 +6,9 @@ use lib.IntN.{ℤ}
 use lib.Ieee.{Float}
 use Rattle.rules.specs.Promises.{Normalises, Multiplies, Divides, ScoresLay, ScoresLift}
 use Rattle.probability_influence.specs.Step.{block_of}
-use Rattle.boundary_slots.specs.Slots.{world, offset_by, span_from}
+use Rattle.boundary_slots.specs.Slots.{world, offset_by}
 use Rattle.boundary.specs.Boundary.{Numbered, written_number}
+use Rattle.harness_floats.specs.Spans.{span_from}
 use Rattle.boundary.proofs.Back.{Decides, gives-decides, numbered-decides}
 
 pub port-normalise-coincide : (probabilities : List Float) (rows cols count : ℕ) (row col down across : ℤ) (out : List Float)

@@ -4,8 +4,9 @@
 
 ghost use Rattle.rules.specs.Promises.{before, after, Normalises, Multiplies, Divides, ScoresLay, ScoresLift};
 ghost use Rattle.probability_influence.specs.Step.{block_of};
-ghost use Rattle.boundary_slots.specs.Slots.{world, offset_by, span_from};
+ghost use Rattle.boundary_slots.specs.Slots.{world, offset_by};
 ghost use Rattle.boundary.specs.Boundary.{Numbered, written_number};
+ghost use Rattle.harness_floats.specs.Spans.{span_from};
 
 use boundary::written;
 use boundary_slots::{offset_at, world_at};

@@ -5,19 +5,18 @@
 ghost use Rattle.std.specs.Prelude.{◌≡◌, true, ◌-◌, ◌<◌, ◌≤◌, length};
 ghost use Rattle.base.specs.Tables.{fold};
 ghost use Rattle.rules.specs.Tests.{tile_number_fits};
-ghost use Rattle.rules.specs.Grid.{cell_at, entry_of};
 ghost use Rattle.rules.specs.Promises.{before};
 ghost use Rattle.rules.specs.Floats.{zero64};
 ghost use Rattle.rules.specs.Scores.{plus_term};
 ghost use Rattle.score_mean.specs.Box.{term_of, box_row, box_rows, score_at};
 ghost use Rattle.score_mean.specs.Fits.{CellFits};
 
-// Fraction = count / tiles, at a row and a column.
-fn term(squared: bool, counts: &[u32], tiles: usize, cols: usize, row: usize, col: usize) -> f64
-    requires { (tile_number_fits tiles ≡ true) × (entry_of cols (cell_at row col) < length counts.now) }
-    ensures { result ≡ term_of squared counts.now tiles (entry_of cols (cell_at row col)) }
+// Fraction = count / tiles.
+fn term(squared: bool, counts: &[u32], tiles: usize, k: usize) -> f64
+    requires { (tile_number_fits tiles ≡ true) × (k < length counts.now) }
+    ensures { result ≡ term_of squared counts.now tiles k }
 {
-    let fraction = counts[row * cols + col] as f64 / tiles as f64;
+    let fraction = counts[k] as f64 / tiles as f64;
     if squared {
         fraction * fraction
     } else {
@@ -49,7 +48,7 @@ fn add_row(
     let mut total = sum;
     let mut j = missing(c);
     while j < 3 {
-        total = total + term(squared, counts, tiles, cols, r + i - 2, c + j - 2);
+        total = total + term(squared, counts, tiles, (r + i - 2) * cols + (c + j - 2));
         j += 1;
     }
     total

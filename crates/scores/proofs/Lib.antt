@@ -1,3 +1,4 @@
 pub mod Region
+pub mod Accept
 pub mod Coincide
 pub mod Numbers

@@ -11,8 +11,8 @@ board-sides-requires c κs = search rules
 returns : tie.Need-returns
 returns c = search chain depth 20 fits 5000
 
-scores-refused-requires : tie.Need-scores-refused-requires
-scores-refused-requires c κs = passes _ c.before.board-sides.ensures c.if1.false
+planes-refused-requires : tie.Need-planes-refused-requires
+planes-refused-requires c κs = passes _ c.before.board-sides.ensures c.if1.false
 
 returns-2 : tie.Need-returns-2
 returns-2 c = search chain depth 20 fits 5000
@@ -29,7 +29,7 @@ lay-refused-spec =
     (tie.spec
     board-sides-requires
     returns
-    scores-refused-requires
+    planes-refused-requires
     returns-2
     place-refused-requires
     returns-3)

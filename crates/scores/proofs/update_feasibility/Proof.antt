@@ -9,9 +9,8 @@ use Rattle.base.proofs.Chain.{chain, part-passed}
 use Rattle.rules.proofs.Answered.{answers, done}
 use Rattle.place_spans.proofs.Spanned.{never-refused, rows-round, cols-round}
 use Rattle.score_regions.specs.Region.{past_targets}
-use Rattle.score_regions.proofs.Scored.{scores-fit}
-use Rattle.score_checks.proofs.Accept.{LayPasses, lay-passes}
-use Rattle.scores.proofs.Region.{lay-scored}
+use Rattle.scores.proofs.Accept.{LayPasses, lay-passes}
+use Rattle.scores.proofs.Region.{lay-scored, scores-fit}
 use borrow.Author.Rules.{rules}
 use Rattle.scores.proofs.update_feasibility.Statement.{statement}
 use Rattle.scores.proofs.update_feasibility.Tie as tie
@@ -87,7 +86,7 @@ score-region-requires c κs = let p = c.before in
     let a = i.before.before.before.before.before.args in
     let s = accepts i in
     rw (p.before.past-targets.ensures, p.past-targets2.ensures)
-    (scores-fit _ _ _ _ _ s.sides s.scored.planes.scores-long s.scored.planes.counts-long s.scored.planes.number (past_targets a.rows _) (past_targets a.cols _) (omega arith) (omega arith) (omega arith) (omega arith))
+    (scores-fit _ _ _ _ _ s.sides s.planes (past_targets a.rows _) (past_targets a.cols _) (omega arith) (omega arith) (omega arith) (omega arith))
 
 same-length-3 : tie.Need-same-length-3
 same-length-3 c = search rules
@@ -102,7 +101,7 @@ returns-3 c = let k = c.before.before in
     done _ _ _ (part-passed _ i.before.lay-refused.ensures i.if1.false)
     (k.score-region.ensures
     ∙ rw (p.before.past-targets.ensures, p.past-targets2.ensures)
-    (lay-scored a.scores.now a.counts.now a.rows a.cols a.tiles s.sides s.scored.planes.scores-long
+    (lay-scored a.scores.now a.counts.now a.rows a.cols a.tiles s.sides s.planes.scores-long
     a.place a.offset s.place.boarded (rowround-is d) (colround-is d)))
 
 pub update-feasibility-spec : {M : Type 1} → statement M
