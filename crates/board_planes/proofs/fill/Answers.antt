@@ -13,8 +13,7 @@ pub loop-k-smaller : goal.loop-k-smaller
 loop-k-smaller c = simp length-set (omega arith)
 
 pub loop-k-preserved : goal.loop-k-preserved
-loop-k-preserved c =
-    (simp length-set (omega arith), omega arith, swept-turn 0 _ _ _ _ _ (omega arith) c.before.loop-k.invariant.2 refl)
+loop-k-preserved c = (simp length-set (omega arith), omega arith, swept-turn 0 _ _ _ _ _ (omega arith) c.loop-k.invariant.2 refl)
 
 pub returns : goal.returns
-returns c = c.before.loop-k.invariant.2 ∙ swept_all 0 _ _ _ (omega arith)
+returns c = c.loop-k.invariant.2 ∙ swept_all 0 _ _ _ (omega arith)
