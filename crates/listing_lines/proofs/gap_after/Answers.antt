@@ -9,7 +9,7 @@ pub returns-then-cols-eq0 : goal.returns-then-cols-eq0
 returns-then-cols-eq0 c = gap-none _ _ c.if-cols-eq0.true
 
 pub overflow_add-k : goal.overflow_add-k
-overflow_add-k c = let p : 0 < c.before.args.cols = omega (arith, c.if-cols-eq0.false) in omega (arith, mod-lt c.before.args.k p)
+overflow_add-k c = let p : 0 < c.args.cols = omega (arith, c.if-cols-eq0.false) in omega (arith, mod-lt c.args.k p)
 
 pub returns-then-k-cols : goal.returns-then-k-cols
 returns-then-k-cols c = gap-last _ _ c.if-k-cols.true

@@ -3,4 +3,4 @@ use Rattle.listing_lines.proofs.Texts.{cell-is}
 use Rattle.listing_lines.proofs.put_cell.Goals as goal
 
 pub returns : goal.returns
-returns c = cell-is _ _ _ _ c.before.before.before.before.before.before.before.before.above.ensures c.before.before.before.gap_after.ensures c.before.before.before.before.before.before.before.put_number-next.ensures c.before.before.put.ensures
+returns c = cell-is _ _ _ _ c.above.ensures c.gap_after.ensures c.put_number-next.ensures c.put.ensures

@@ -4,4 +4,4 @@ use Rattle.listing_lines.proofs.put_number.Goals as goal
 
 pub returns : goal.returns
 unfolding decimal
-returns c = c.before.before.put_digits.ensures
+returns c = c.put_digits.ensures

@@ -5,4 +5,4 @@ use Rattle.listing_lines.proofs.put_number_line.Goals as goal
 
 pub returns : goal.returns
 unfolding number_line
-returns c = writes_then c.before.before.before.before.before.before.put_number-next.ensures c.before.before.put.ensures
+returns c = writes_then c.put_number-next.ensures c.put.ensures

@@ -5,16 +5,16 @@ use Rattle.listing_job.proofs.Forming.{whole_from, whole_is, whole-on, whole-end
 use Rattle.listing_job.proofs.job.are_steps.Goals as goal
 
 pub loop-p-init : goal.loop-p-init
-loop-p-init c = whole_is _ _ c.before.requires
+loop-p-init c = whole_is _ _ c.requires
 
 pub step_end-p-requires : goal.step_end-p-requires
 step_end-p-requires c = c.loop-p-test.true
 
 pub loop-p-smaller : goal.loop-p-smaller
-loop-p-smaller c = omega (arith, c.step_end-p.ensures, goes_on c.before.before.before.before.args.numbers.now c.before.before.loop-p.p c.before.loop-p-test.true)
+loop-p-smaller c = omega (arith, c.step_end-p.ensures, goes_on c.args.numbers.now c.loop-p.p c.loop-p-test.true)
 
 pub loop-p-preserved : goal.loop-p-preserved
-loop-p-preserved c = ap (whole_from _) c.step_end-p.ensures ∙ whole-on _ _ c.before.loop-p-test.true ∙ c.before.before.loop-p.invariant
+loop-p-preserved c = ap (whole_from _) c.step_end-p.ensures ∙ whole-on _ _ c.loop-p-test.true ∙ c.loop-p.invariant
 
 pub returns : goal.returns
-returns c = whole-end _ _ c.loop-p-test.false ∙ c.before.loop-p.invariant
+returns c = whole-end _ _ c.loop-p-test.false ∙ c.loop-p.invariant

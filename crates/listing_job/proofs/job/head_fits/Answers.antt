@@ -10,12 +10,12 @@ use Rattle.listing_job.proofs.job.head_fits.Goals as goal
 
 pub returns-then-number-le1 : goal.returns-then-number-le1
 unfolding head_fits
-returns-then-number-le1 c = and-go _ _ (sides-are _ c.before.before.before.before.before.before.number.ensures c.before.before.before.before.before.number-2.ensures c.before.before.before.before.sides_up_to.ensures c.before.before.before.if-sides_up_to.true) (and-go _ _ (option_is c.before.before.number-then-sides_up_to.ensures (le-leb _ _ c.before.if-number-le1.true)) (ap (λ (n : ℕ). leb n 1) c.number-then-number-le1.ensures))
+returns-then-number-le1 c = and-go _ _ (sides-are _ c.number.ensures c.number-2.ensures c.sides_up_to.ensures c.if-sides_up_to.true) (and-go _ _ (option_is c.number-then-sides_up_to.ensures (le-leb _ _ c.if-number-le1.true)) (ap (λ (n : ℕ). leb n 1) c.number-then-number-le1.ensures))
 
 pub returns-else-number-le1 : goal.returns-else-number-le1
 unfolding head_fits
-returns-else-number-le1 c = and-go _ _ (sides-are _ c.before.before.before.before.before.number.ensures c.before.before.before.before.number-2.ensures c.before.before.before.sides_up_to.ensures c.before.before.if-sides_up_to.true) (and-stop _ _ (option_is c.before.number-then-sides_up_to.ensures (lt-leb _ _ c.if-number-le1.false)))
+returns-else-number-le1 c = and-go _ _ (sides-are _ c.number.ensures c.number-2.ensures c.sides_up_to.ensures c.if-sides_up_to.true) (and-stop _ _ (option_is c.number-then-sides_up_to.ensures (lt-leb _ _ c.if-number-le1.false)))
 
 pub returns-else-sides_up_to : goal.returns-else-sides_up_to
 unfolding head_fits
-returns-else-sides_up_to c = and-stop _ _ (sides-are _ c.before.before.before.number.ensures c.before.before.number-2.ensures c.before.sides_up_to.ensures c.if-sides_up_to.false)
+returns-else-sides_up_to c = and-stop _ _ (sides-are _ c.number.ensures c.number-2.ensures c.sides_up_to.ensures c.if-sides_up_to.false)

@@ -8,15 +8,15 @@ use Rattle.listing_job.proofs.Forming.{few-cells}
 use Rattle.listing_job.proofs.job.is_formed.Goals as goal
 
 pub sample_cells-requires : goal.sample_cells-requires
-sample_cells-requires c = sym c.before.head_fits.ensures ∙ c.if-head_fits.true
+sample_cells-requires c = sym c.head_fits.ensures ∙ c.if-head_fits.true
 
 pub tail_fits-requires : goal.tail_fits-requires
-tail_fits-requires c = omega (arith, c.sample_cells.ensures, few-cells c.before.before.before.before.args.numbers.now (sym c.before.before.head_fits.ensures ∙ c.before.if-head_fits.true))
+tail_fits-requires c = omega (arith, c.sample_cells.ensures, few-cells c.args.numbers.now (sym c.head_fits.ensures ∙ c.if-head_fits.true))
 
 pub returns-then-head_fits : goal.returns-then-head_fits
 unfolding is_formed
-returns-then-head_fits c = and-go _ _ (sym c.before.before.before.head_fits.ensures ∙ c.before.before.if-head_fits.true) (c.tail_fits.ensures ∙ ap (tail_fits _) c.before.sample_cells.ensures)
+returns-then-head_fits c = and-go _ _ (sym c.head_fits.ensures ∙ c.if-head_fits.true) (c.tail_fits.ensures ∙ ap (tail_fits _) c.sample_cells.ensures)
 
 pub returns-else-head_fits : goal.returns-else-head_fits
 unfolding is_formed
-returns-else-head_fits c = and-stop _ _ (sym c.before.head_fits.ensures ∙ c.if-head_fits.false)
+returns-else-head_fits c = and-stop _ _ (sym c.head_fits.ensures ∙ c.if-head_fits.false)

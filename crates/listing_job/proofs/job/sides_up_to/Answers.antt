@@ -6,8 +6,8 @@ use Rattle.listing_job.proofs.job.sides_up_to.Goals as goal
 
 pub returns-then-side_up_to : goal.returns-then-side_up_to
 unfolding sides_up_to
-returns-then-side_up_to c = and-go _ _ (sym c.before.before.side_up_to.ensures ∙ c.before.if-side_up_to.true) c.side_up_to-then-side_up_to.ensures
+returns-then-side_up_to c = and-go _ _ (sym c.side_up_to.ensures ∙ c.if-side_up_to.true) c.side_up_to-then-side_up_to.ensures
 
 pub returns-else-side_up_to : goal.returns-else-side_up_to
 unfolding sides_up_to
-returns-else-side_up_to c = and-stop _ _ (sym c.before.side_up_to.ensures ∙ c.if-side_up_to.false)
+returns-else-side_up_to c = and-stop _ _ (sym c.side_up_to.ensures ∙ c.if-side_up_to.false)

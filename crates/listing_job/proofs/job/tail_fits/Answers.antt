@@ -7,11 +7,11 @@ use Rattle.listing_job.proofs.job.tail_fits.Goals as goal
 
 pub returns-then-sides_up_to : goal.returns-then-sides_up_to
 unfolding tail_fits
-returns-then-sides_up_to c = and-go _ _ (le-leb _ _ c.before.before.before.before.before.if-cells-numbers.true) (and-go _ _ (sides-are _ c.before.before.before.before.number.ensures c.before.before.before.number-then-cells-numbers.ensures c.before.before.sides_up_to.ensures c.before.if-sides_up_to.true) c.are_steps.ensures)
+returns-then-sides_up_to c = and-go _ _ (le-leb _ _ c.if-cells-numbers.true) (and-go _ _ (sides-are _ c.number.ensures c.number-then-cells-numbers.ensures c.sides_up_to.ensures c.if-sides_up_to.true) c.are_steps.ensures)
 
 pub returns-else-sides_up_to : goal.returns-else-sides_up_to
 unfolding tail_fits
-returns-else-sides_up_to c = and-go _ _ (le-leb _ _ c.before.before.before.before.if-cells-numbers.true) (and-stop _ _ (sides-are _ c.before.before.before.number.ensures c.before.before.number-then-cells-numbers.ensures c.before.sides_up_to.ensures c.if-sides_up_to.false))
+returns-else-sides_up_to c = and-go _ _ (le-leb _ _ c.if-cells-numbers.true) (and-stop _ _ (sides-are _ c.number.ensures c.number-then-cells-numbers.ensures c.sides_up_to.ensures c.if-sides_up_to.false))
 
 pub returns-else-cells-numbers : goal.returns-else-cells-numbers
 unfolding tail_fits
