@@ -22,7 +22,7 @@ use queue_ring::{add_positions, entry_in, slot_of};
 use rules::{CountAnswer, ForcedPosition, GenerationBounds, Offset, RunAnswer, SpanAnswer, World};
 
 // Where the queue stands in its slots, how many entries were taken and laid, and whether an adding met ROOM.
-#[derive(Drop)]
+#[derive(Clone, Copy)]
 pub struct Progress {
     pub first: usize,
     pub len: usize,
