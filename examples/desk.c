@@ -1,6 +1,6 @@
 /* A desk in miniature: a 3x4 panel, the two chequer tiles, a piece laid, colours listed, the piece lifted; the same piece laid and what it
  * forces run out; and the same piece laid, the panel widened, the piece lifted. It checks every answer, and compares the planes after each
- * lift, and the scores made anew, with those of a panel on which no piece ever lay. */
+ * lift with those of a panel on which no piece ever lay. */
 #include "desk.h"
 
 #include <inttypes.h>
@@ -89,22 +89,6 @@ static struct plan widen(const struct plan *plan, size_t left, size_t right, siz
     return wide;
 }
 
-static void score(const struct plan *plan, double *scores)
-{
-    size_t n = cells(plan);
-    need("score", desk_plain_score(scores, n, plan->counts, n, plan->rows, plan->cols, TILES), DESK_DONE);
-}
-
-/* After a lay or a lift: the cells at most two from the place, as far as they are on the board. */
-static void score_near(const struct plan *plan, double *scores, int32_t row, int32_t col)
-{
-    size_t n = cells(plan), r = (size_t)(row + plan->down), c = (size_t)(col + plan->across);
-    size_t rowstart = r < 2 ? 0 : r - 2, rowend = r + 3 < plan->rows ? r + 3 : plan->rows;
-    size_t colstart = c < 2 ? 0 : c - 2, colend = c + 3 < plan->cols ? c + 3 : plan->cols;
-    need("score near a place",
-         desk_plain_score_near(scores, n, plan->counts, n, plan->rows, plan->cols, TILES, rowstart, rowend, colstart, colend), DESK_DONE);
-}
-
 static void list(const struct plan *plan, int32_t row, int32_t col)
 {
     uint64_t found = 0;
@@ -126,20 +110,10 @@ static void show(const char *name, const struct plan *plan, const uint32_t *plan
         printf("%" PRIu32 "%c", plane[k], (k + 1) % plan->cols ? ' ' : '\n');
 }
 
-static void show_scores(const struct plan *plan, const double *scores)
-{
-    puts("scores");
-    for (size_t k = 0; k < cells(plan); k++)
-        printf("%.4f%c", scores[k], (k + 1) % plan->cols ? ' ' : '\n');
-}
-
 int main(void)
 {
     struct plan plan = bare(3, 4, 1, 1);
     const struct plan before = plan;
-    double scores[ROOM] = {0}, expected[ROOM] = {0};
-    score(&plan, scores);
-    score(&before, expected);
 
     list(&plan, 0, 1);
     need("lay", lay(&plan, 0, 0, 1), DESK_DONE);
@@ -147,8 +121,6 @@ int main(void)
     list(&plan, 0, 1);
     show("weights", &plan, plan.weights);
     show("counts", &plan, plan.counts);
-    score_near(&plan, scores, 0, 0);
-    show_scores(&plan, scores);
 
     const struct plan laid = plan;
     uint32_t answer = lay(&plan, 0, 0, 2);
@@ -158,9 +130,7 @@ int main(void)
 
     need("lift", lift(&plan, 0, 0), DESK_DONE);
     need("memory after the lift", memcmp(&plan, &before, sizeof plan) != 0, 0);
-    score_near(&plan, scores, 0, 0);
-    need("scores after the lift", memcmp(scores, expected, sizeof scores) != 0, 0);
-    puts("lifted: pieces, weights and counts as before the lay; scored anew, every bit of the scores too");
+    puts("lifted: pieces, weights and counts as before the lay");
 
     struct plan forced = laid;
     run_out(&forced, 0, 0, 3);
@@ -173,16 +143,10 @@ int main(void)
     struct plan wide = widen(&laid, 1, 0, 0, 2);
     printf("widened with the piece on it: %zu rows, %zu columns, offset %" PRId32 " %" PRId32 "\n", wide.rows, wide.cols, wide.down, wide.across);
     show("weights", &wide, wide.weights);
-    /* A new size: all of it. */
-    score(&wide, scores);
-    show_scores(&wide, scores);
     need("lift after the widening", lift(&wide, 0, 0), DESK_DONE);
-    score_near(&wide, scores, 0, 0);
     const struct plan never = bare(4, 6, 2, 1);
-    score(&never, expected);
     need("memory after that lift", memcmp(&wide, &never, sizeof wide) != 0, 0);
-    need("scores after that lift", memcmp(scores, expected, sizeof scores) != 0, 0);
-    puts("lifted: a widened panel on which no piece ever lay, and its scores");
+    puts("lifted: a widened panel on which no piece ever lay");
 
     answer = desk_lift(NULL, 0, NULL, 0, NULL, 0, 3, 4, NULL, 0, COLOURS, 0, 0, 1, 1);
     need("no planes", answer, DESK_LENGTH);

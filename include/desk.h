@@ -1,6 +1,6 @@
 /* The desk's functions: fitting colours, lay, lift, widening, running out the forced pieces and the plain score, for a C program.
  *
- * Build: `rt staticlib desk` proves the functions and writes target/staticlib/libdesk.a; link it, no other library is needed. It is for
+ * Build: `tests/archives desk` proves the functions and writes target/staticlib/libdesk.a; link it, no other library is needed. It is for
  * x86-64 (System V calls, Linux) alone. The functions hold no state, allocate nothing, print nothing, and always return.
  *
  * What a plan is: a board of cells, on which pieces of glass lie, and a list of 3x3 tiles that says which pieces may lie side by side. Three

@@ -102,7 +102,7 @@ fn link_port(here: &Path) {
     for name in PORT {
         let library = folder.join(format!("lib{name}.a"));
         if !library.is_file() {
-            stop(&format!("GREEDYTILE_PORT: {} is not there; `rt staticlib {name}` makes it", library.display()));
+            stop(&format!("GREEDYTILE_PORT: {} is not there; `tests/archives {name}` makes it", library.display()));
         }
         println!("cargo::rerun-if-changed={}", library.display());
         println!("cargo::rustc-link-lib=static={name}");

@@ -3,9 +3,9 @@
 -- own words and names them in a list for `search`; all speak of checks and not of a number, so that the search finds the checks.
 -- Assumes nothing.
 use Prim.Native.Nat.{ℕ, zero, suc}
-use mathlib.Core.Path.{◌≡◌, refl, sym, ◌∙◌, ap, subst}
+use mathlib.Core.Path.{◌≡◌, refl, sym, ◌∙◌, ap}
 use mathlib.Core.Bool.{true}
-use Rattle.base.specs.Refusal.{Checks, refusal, unless_refused, Gives, Does}
+use Rattle.base.specs.Refusal.{Checks, refusal, Does}
 use Rattle.base.proofs.Bools.{never}
 use Rattle.base.proofs.Chain.{refusing, not-refused, kept-old, has_new}
 

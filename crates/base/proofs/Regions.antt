@@ -6,7 +6,7 @@
 -- Assumes nothing.
 use Prim.Native.Nat.{ℕ, ◌+◌, ◌-◌, ◌*◌, ◌/◌, ◌%◌, ◌<◌, ◌≤◌}
 use mathlib.Core.Path.{◌≡◌, refl, sym, ◌∙◌, ap}
-use mathlib.Core.Bool.{Bool, true, false, ◌&&◌}
+use mathlib.Core.Bool.{true, false}
 use mathlib.Core.List.{List, ◌++◌}
 use native.Mathlib.Nat.{mul-le-mul_right, suc-mul, le-div_iff_mul-le}
 use native.Mathlib.Numerals.{add-one}
@@ -19,7 +19,7 @@ use Rattle.base.specs.Tables.{tab}
 use Rattle.base.specs.Regions.{between, inside, RegionFits, over_row, over_region}
 use Rattle.base.proofs.Bools.{and_both, and_left, and_right, and-no-left, and-no-right, by-test, pick_yes, pick_no}
 use Rattle.base.proofs.Numbers.{row_of, col-of, row_lt}
-use Rattle.base.proofs.Tabled.{tab-ext, length-tab}
+use Rattle.base.proofs.Tabled.{tab-ext}
 use Rattle.base.proofs.Sweep.{Sweep, sweep-none, sweep-turn, sweep-skip, sweep-all, sweep-old, sweep-part, part_at}
 
 -- ---- between

@@ -1,13 +1,11 @@
 -- Filled planes of a board's lengths are the fresh board. Assumes nothing.
 use Prim.Native.Nat.{ℕ, ◌*◌}
 use mathlib.Core.Path.{◌≡◌, refl, sym}
-use mathlib.Core.Bool.{true}
 use mathlib.Core.List.{List}
 use lib.ListN.{length}
 use Rattle.base.specs.Tables.{tab}
 use Rattle.base.specs.Refusal.{refusal}
 use Rattle.base.proofs.Chain.{all_pass}
-use Rattle.rules.specs.Tests.{has_length}
 use Rattle.rules.specs.Board.{fresh_checks, fresh_board}
 use Rattle.rules.specs.Promises.{board}
 use Rattle.check_sizes.proofs.Sides.{long}

@@ -2,12 +2,12 @@
 --     near-region    the region lies in the plane
 --     near-far, near-close   outside it a cell is further than 2 away, inside it at most 2
 -- Assumes nothing.
-use Prim.Native.Nat.{ℕ, ◌+◌, ◌-◌, ◌*◌, ◌/◌, ◌%◌, ◌<◌, ◌≤◌, min, max}
+use Prim.Native.Nat.{ℕ, ◌+◌, ◌-◌, ◌*◌, ◌/◌, ◌%◌, ◌<◌, ◌≤◌, min}
 use mathlib.Core.Path.{◌≡◌}
-use mathlib.Core.Bool.{Bool, true, false, ◌&&◌}
+use mathlib.Core.Bool.{Bool, true, false}
 use mathlib.Core.List.{List}
 use mathlib.Core.Logic.{⊎_elim}
-use native.Mathlib.Nat.{le-max_left, le-max_right, le_trans, le_of_lt, le-min, min-le_left, min-le_right, min-eq_left, min-eq_right, max-le, mul-le-mul_right}
+use native.Mathlib.Nat.{le-max_left, le-max_right, le_trans, le-min, min-le_left, min-le_right, max-le, mul-le-mul_right}
 use native.Mathlib.Omega.{arith}
 use lib.ListN.{length}
 use Rattle.base.specs.Regions.{between, inside, RegionFits}

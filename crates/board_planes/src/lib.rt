@@ -7,7 +7,7 @@ ghost use Rattle.base.specs.Refusal.{refusal};
 ghost use Rattle.rules.specs.Bounds.{max_cells, max_tiles};
 ghost use Rattle.rules.specs.Grid.{entry_of};
 ghost use Rattle.rules.specs.Board.{plane_lengths, board_lengths, board_contents, laying_checks, lifting_checks};
-ghost use Rattle.rules.specs.Promises.{before, after, board_before};
+ghost use Rattle.rules.specs.Promises.{before, after, board};
 
 use check_contents::{colours_refused, no_word_above};
 use check_sizes::{board_sides, cells_of, words_have_length};
@@ -15,7 +15,7 @@ use rules::Cell;
 
 // LENGTH of the three planes of a board of so many cells, 0 where all pass.
 pub fn planes_refused(pieces: &[u32], weights: &[u32], counts: &[u32], cells: usize) -> u8
-    ensures { result ≡ refusal (plane_lengths cells (board_before pieces weights counts)) }
+    ensures { result ≡ refusal (plane_lengths cells (board pieces.now weights.now counts.now)) }
 {
     if !words_have_length(pieces, cells) {
         return rules::LENGTH;
@@ -37,7 +37,7 @@ pub fn lengths_refused(
     rows: usize,
     cols: usize,
 ) -> u8
-    ensures { result ≡ refusal (board_lengths rows cols (board_before pieces weights counts)) }
+    ensures { result ≡ refusal (board_lengths rows cols (board pieces.now weights.now counts.now)) }
 {
     if !board_sides(rows, cols) {
         return rules::SHAPE;
@@ -55,7 +55,7 @@ pub fn contents_refused(
     n: usize,
 ) -> u8
     requires { n ≤ max_tiles }
-    ensures { result ≡ refusal (board_contents tiles.now count (board_before pieces weights counts) n) }
+    ensures { result ≡ refusal (board_contents tiles.now count (board pieces.now weights.now counts.now) n) }
 {
     let no = colours_refused(tiles, count, pieces);
     if no != 0 {

@@ -1,7 +1,6 @@
 -- What the recount leans on once its checks have passed. Assumes nothing.
-use Prim.Native.Nat.{ℕ, ◌*◌}
+use Prim.Native.Nat.{ℕ}
 use mathlib.Core.Path.{◌≡◌, refl, sym, ◌∙◌, ap}
-use mathlib.Core.Bool.{true}
 use mathlib.Core.List.{List}
 use Rattle.base.specs.Refusal.{refusal}
 use Rattle.base.proofs.Chain.{Passes, all_pass}

@@ -1,16 +1,14 @@
 -- Laws of one region's count after a change: the ways of `count_after`, and that recounting the regions that start in the spans of radius 2
 -- round a cell is document 01's recount: further away nothing is recounted.
 -- Assumes nothing.
-use Prim.Native.Nat.{ℕ, ◌+◌, ◌*◌, ◌/◌, ◌%◌, ◌<◌, ◌≤◌}
+use Prim.Native.Nat.{ℕ, ◌+◌, ◌<◌, ◌≤◌}
 use mathlib.Core.Path.{◌≡◌, sym, ◌∙◌, ap}
 use mathlib.Core.Bool.{Bool, true, false, ◌&&◌}
 use mathlib.Core.List.{List}
 use native.Mathlib.Nat.{min-le_right}
 use native.Mathlib.Omega.{arith}
 use lib.Dec.{leb, ltb}
-use lib.ListN.{length, get_or}
 use borrow.Author.Tests.{le-leb, lt-leb, lt-ltb, le-ltb}
-use Rattle.base.specs.Counting.{pick}
 use Rattle.base.proofs.Bools.{and_both, and-no-left, and-no-right, pick_yes, pick_no}
 use Rattle.base.proofs.Numbers.{row_of, col-of, cell-is}
 use Rattle.base.proofs.Regions.{region-is}

@@ -1,4 +1,5 @@
--- What the loops over the spans round a cell write is what document 01 says of the whole plane: further than 2 away nothing is added.
+-- What the loops over the spans round a cell write is what document 01 says of the whole plane: further than 2 away nothing is added. And
+-- a row to which such a loop comes lies in the plane.
 -- Assumes nothing.
 use Prim.Native.Nat.{ℕ, ◌+◌, ◌-◌, ◌*◌, ◌<◌, ◌≤◌}
 use mathlib.Core.Path.{◌≡◌, refl, ◌∙◌, ap}
@@ -7,14 +8,16 @@ use native.Mathlib.Omega.{arith}
 use lib.ListN.{length, get_or}
 use Rattle.base.specs.Tables.{tab}
 use Rattle.base.specs.Regions.{over_region}
-use Rattle.base.proofs.Regions.{region-is}
+use Rattle.base.proofs.Regions.{RowsDone, region-is, row_room}
+use Rattle.rules.specs.Bounds.{max_cells}
 use Rattle.rules.specs.Grid.{entry_of, cell_with, distance, flat}
 use Rattle.rules.specs.Board.{share, reach, raised, lowered}
 use Rattle.rules.specs.declared.Cell.{Cell}
 use Rattle.rules.specs.declared.Span.{Span}
 use Rattle.rules.proofs.Shares.{share-far}
 use Rattle.board_near.specs.Near.{OnPlane, Nearby}
-use Rattle.board_near.proofs.Nearby.{apart-is, near-far}
+use Rattle.board_near.proofs.Nearby.{apart-is, near-far, near-region}
+use Rattle.board_near.proofs.Leaning.{in-plane}
 use Rattle.board_weights.specs.Shares.{raised_by, lowered_by}
 
 module _ (rows cols : ℕ) (cell : Cell) (rowspan colspan : Span) (l : List ℕ) (on : OnPlane l rows cols cell) (near : Nearby rows cols cell rowspan colspan) where
@@ -41,3 +44,10 @@ module _ (rows cols : ℕ) (cell : Cell) (rowspan colspan : Span) (l : List ℕ)
   pub lowered_is : over_region 0 (lowered_by cell) cols rowspan.0 rowspan.1 colspan.0 colspan.1 l ≡ lowered (flat rows cols) (entry_of cols cell) l
   unfolding lowered
   lowered_is = by-share ◌-◌ (λ x. omega arith) _ (λ k. refl)
+
+  -- the next row of a loop over the spans is in the plane, which is small
+  pub row-in : (step : ℕ → ℕ → ℕ → ℕ) {w : List ℕ} {row : ℕ} → RowsDone 0 step cols rowspan.0 rowspan.1 colspan.0 colspan.1 l w row → row < rowspan.1
+      → (row * cols + cols ≤ length l) × (length l ≤ max_cells)
+  row-in step d h =
+      let held = row_room 0 step _ _ _ _ _ _ (near-region rows cols cell rowspan colspan near l on) d h in
+      (omega (arith, held, d.long), (in-plane _ _ _ _ on).1)

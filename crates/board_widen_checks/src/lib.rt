@@ -8,7 +8,7 @@ ghost use Rattle.rules.specs.Bounds.{max_board_side};
 ghost use Rattle.rules.specs.Tests.{board_sides, whole_tiles};
 ghost use Rattle.rules.specs.Places.{new_rows, new_cols};
 ghost use Rattle.rules.specs.Widening.{widen_checks};
-ghost use Rattle.rules.specs.Promises.{before, board_before, panel};
+ghost use Rattle.rules.specs.Promises.{board, panel};
 ghost use Rattle.board_widen_checks.specs.Suffix.{offset_checks, held_checks, lent_checks};
 
 use board_planes::{contents_refused, planes_refused};
@@ -43,7 +43,7 @@ fn held_refused(
     pads: Pads,
 ) -> u8
     requires { (whole_tiles tiles.now ≡ true) × (pads.left ≤ max_board_side) × (pads.top ≤ max_board_side) }
-    ensures { result ≡ refusal (held_checks tiles.now offset count (board_before pieces weights counts) pads) }
+    ensures { result ≡ refusal (held_checks tiles.now offset count (board pieces.now weights.now counts.now) pads) }
 {
     let n = tiles.len() / rules::TILE_CELLS;
     let no = contents_refused(pieces, weights, counts, tiles, count, n);
@@ -69,8 +69,8 @@ fn lent_refused(
     offset: Offset,
 ) -> u8
     requires { (board_sides rows cols ≡ true) × (board_sides (new_rows rows pads) (new_cols cols pads) ≡ true) }
-    ensures { result ≡ refusal (lent_checks (panel rows cols tiles.now offset) count (board_before pieces weights counts)
-        pads (board_before widepieces wideweights widecounts)) }
+    ensures { result ≡ refusal (lent_checks (panel rows cols tiles.now offset) count (board pieces.now weights.now counts.now)
+        pads (board widepieces.now wideweights.now widecounts.now)) }
 {
     let held = planes_refused(pieces, weights, counts, cells_of(rows, cols));
     if held != 0 {
@@ -106,8 +106,8 @@ pub fn widen_refused(
     count: u32,
     offset: Offset,
 ) -> u8
-    ensures { result ≡ refusal (widen_checks (panel rows cols tiles.now offset) count (board_before pieces weights counts)
-        pads (board_before widepieces wideweights widecounts)) }
+    ensures { result ≡ refusal (widen_checks (panel rows cols tiles.now offset) count (board pieces.now weights.now counts.now)
+        pads (board widepieces.now wideweights.now widecounts.now)) }
 {
     if !board_sides(rows, cols) {
         return rules::SHAPE;

@@ -1,37 +1,42 @@
 // The listing program's work on each of the files 00, 01, .. in turn, up to the first that is not there; data/INDEX says what each shows.
 #![tactic(auto)]
 
-use libc::STDOUT_FILENO;
+use std::fs::File;
+use std::io;
+use std::io::Read;
+use std::rt::Files;
 
 fn digit(n: usize) -> u8 {
     48 + (n % 10) as u8
 }
 
 // What the program prints for a file, under the file's name. False where there is no such file.
-fn list_case(k: usize) -> bool {
-    let name = [digit(k / 10), digit(k)];
-    let file = os::open_read(&name);
-    if file < 0 {
-        return false;
-    }
-    let mut input = [0u8; listing_text::INPUT_ROOM];
-    let read = io::read_full(file, &mut input);
-    libc::close(file);
+fn list_case(rt: &(impl Files + Print + Alloc), k: usize) -> io::Result<bool> {
+    let mut name = String::new(rt.alloc());
+    name.push(digit(k / 10) as char)?;
+    name.push(digit(k) as char)?;
+    let Ok(file) = File::open(rt, name.as_str()) else {
+        return Ok(false);
+    };
+    let mut input = Vec::new(rt.alloc());
+    file.take(listing_text::INPUT_ROOM as u64)
+        .read_to_end(&mut input)?;
     let mut out = [0u8; listing_text::MAX_OUTPUT];
-    let written = listing_text::list(&input[..read], &mut out);
-    io::write_all(STDOUT_FILENO, b"case ");
-    io::write_all(STDOUT_FILENO, &name);
-    io::write_all(STDOUT_FILENO, b"\n");
-    io::write_all(STDOUT_FILENO, &out[..written]);
-    true
+    let written = listing_text::list(&input, &mut out);
+    rt.write_all(b"case ")?;
+    rt.write_all(name.as_bytes())?;
+    rt.write_all(b"\n")?;
+    rt.write_all(&out[..written])?;
+    Ok(true)
 }
 
-fn main() {
+fn main(rt: HostRuntime) -> io::Result<()> {
     let mut k = 0;
     while k < 100 {
-        if !list_case(k) {
-            return;
+        if !list_case(&rt, k)? {
+            return Ok(());
         }
         k += 1;
     }
+    Ok(())
 }

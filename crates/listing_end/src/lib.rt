@@ -4,7 +4,7 @@
 ghost use Rattle.std.specs.Prelude.{◌≡◌, true, ◌++◌, ◌≤◌};
 ghost use Rattle.rules.specs.Bounds.{max_cells};
 ghost use Rattle.rules.specs.Tests.{board_sides};
-ghost use Rattle.rules.specs.Promises.{before, after, board_before};
+ghost use Rattle.rules.specs.Promises.{before, after, board};
 ghost use Rattle.listing_lines.specs.Lines.{plane_text};
 ghost use Rattle.listing_lines.specs.Pages.{Prints};
 ghost use Rattle.listing_end.specs.Ending.{refused_line, planes_text, dead_end_text, scan_text, dead_end_start, none_line, end_text, panel_with};
@@ -36,7 +36,7 @@ fn put_planes(
     counts: &[u32],
     cols: usize,
 ) -> usize
-    ensures { Prints (planes_text (board_before pieces weights counts) cols) at (before out) result (after out) }
+    ensures { Prints (planes_text (board pieces.now weights.now counts.now) cols) at (before out) result (after out) }
 {
     let second = put_headed(out, at, b"pieces\n", rules::BARE_PIECE, pieces, cols);
     let third = put_headed(out, second, b"weights\n", 0, weights, cols);
@@ -88,7 +88,7 @@ pub fn put_end(
     setup: Setup,
 ) -> usize
     requires { board_sides setup.board.rows setup.board.cols ≡ true }
-    ensures { Prints (end_text (panel_with setup tiles.now) setup.count (board_before pieces weights counts)) at (before out) result (after out) }
+    ensures { Prints (end_text (panel_with setup tiles.now) setup.count (board pieces.now weights.now counts.now)) at (before out) result (after out) }
 {
     let rows = setup.board.rows;
     let cols = setup.board.cols;

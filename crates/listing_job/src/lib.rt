@@ -10,13 +10,13 @@ pub const MAX_SAMPLE: u32 = 16;
 
 pub const MAX_BOARD: u32 = 32;
 
-#[derive(Drop)]
+#[derive(Clone, Copy)]
 pub struct Sides {
     pub rows: usize,
     pub cols: usize,
 }
 
-#[derive(Drop)]
+#[derive(Clone, Copy)]
 pub struct Setup {
     pub sample: Sides,
     pub count: u32,
@@ -25,7 +25,7 @@ pub struct Setup {
     pub board: Sides,
 }
 
-#[derive(Drop)]
+#[derive(Clone, Copy)]
 pub enum Form {
     Whole(Setup),
     Bad,

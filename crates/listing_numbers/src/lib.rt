@@ -11,7 +11,7 @@ pub const MAX_INPUT: usize = 16_384;
 pub const MAX_NUMBER: u32 = 1_000_000;
 
 // So many numbers; another text; more numbers than the store has entries.
-#[derive(Drop)]
+#[derive(Clone, Copy)]
 pub enum Parsed {
     Numbers(usize),
     Bad,
@@ -19,7 +19,7 @@ pub enum Parsed {
 }
 
 // How far the reading of a text has come: how many numbers are ended and, inside one, what its digits make so far.
-#[derive(Drop)]
+#[derive(Clone, Copy)]
 pub enum State {
     Spoilt,
     Between(usize),
@@ -27,7 +27,7 @@ pub enum State {
 }
 
 // What a text is: so many numbers, or another one.
-#[derive(Drop)]
+#[derive(Clone, Copy)]
 pub enum Found {
     Numbers(usize),
     Other,

@@ -3,9 +3,9 @@
 
 mod job;
 
-ghost use Rattle.io.specs.Counts.{IsPrefixLen};
 ghost use Rattle.base.specs.Lent.{before, after};
 ghost use Rattle.listing_lines.specs.Pages.{Prints};
+ghost use Rattle.listing_text.specs.Counts.{IsPrefixLen};
 ghost use Rattle.listing_text.specs.Printed.{bad_line, numbers_text, printed};
 ghost use Rattle.listing_steps.specs.Walks.{Small};
 

@@ -63,7 +63,7 @@ pub fn len(queue: ForcedPipeline) -> CountAnswer
 }
 
 // The two parts of what taking answers, and of what adding answers. Each is a call of its own, so that the two functions behind them
-// are no more than a read, calls and a store: the proof walks them by hand, and knows the callees by their contracts alone.
+// are no more than a read, calls and a store: their proof knows the callees by their contracts alone.
 fn taken_next(taken: Taken) -> Next
     ensures { result ≡ taken.next }
 {

@@ -4,97 +4,101 @@
 
 ghost use Rattle.std.specs.Prelude.{◌≤◌};
 
-use libc::STDOUT_FILENO;
 use rules::{
     CountAnswer, ForcedPipeline, ForcedPosition, ForcedPositions, Next, Verdict, World, Written,
 };
+use std::io;
 
-fn text(words: &[u8]) {
-    io::write_all(STDOUT_FILENO, words);
+fn text(rt: &impl Print, words: &[u8]) -> io::Result<()> {
+    rt.write_all(words)
 }
 
-fn digit(d: usize) {
+fn digit(rt: &impl Print, d: usize) -> io::Result<()> {
     let byte = [b'0' + (d % 10) as u8];
-    text(&byte);
+    text(rt, &byte)
 }
 
 // A number below 100, as all numbers here are.
-fn number(n: usize) {
+fn number(rt: &impl Print, n: usize) -> io::Result<()> {
     if 9 < n {
-        digit(n / 10);
+        digit(rt, n / 10)?;
     }
-    digit(n);
+    digit(rt, n)
 }
 
-fn print_length(queue: ForcedPipeline) {
+fn print_length(rt: &impl Print, queue: ForcedPipeline) -> io::Result<()> {
     match queue::len(queue) {
         CountAnswer::Is(n) => {
-            text(b", length ");
-            number(n);
+            text(rt, b", length ")?;
+            number(rt, n)?;
         }
         CountAnswer::Refused(n) => {
-            text(b", length refused ");
-            number(n as usize);
+            text(rt, b", length refused ")?;
+            number(rt, n as usize)?;
         }
     }
-    text(b"\n");
+    text(rt, b"\n")
 }
 
-fn print_empty(queue: ForcedPipeline) {
+fn print_empty(rt: &impl Print, queue: ForcedPipeline) -> io::Result<()> {
     match queue::is_empty(queue) {
         Verdict::Is(empty) => {
             if empty {
-                text(b"empty\n");
+                text(rt, b"empty\n")
             } else {
-                text(b"not empty\n");
+                text(rt, b"not empty\n")
             }
         }
         Verdict::Refused(n) => {
-            text(b"empty refused ");
-            number(n as usize);
-            text(b"\n");
+            text(rt, b"empty refused ")?;
+            number(rt, n as usize)?;
+            text(rt, b"\n")
         }
     }
 }
 
-fn add(queue: ForcedPipeline, positions: ForcedPositions) -> ForcedPipeline {
+fn add(
+    rt: &impl Print,
+    queue: ForcedPipeline,
+    positions: ForcedPositions,
+) -> io::Result<ForcedPipeline> {
     let grown = queue::add_positions(queue, positions);
     let answer = grown.answer;
-    text(b"add ");
+    text(rt, b"add ")?;
     match answer {
-        Written::Done => number(0),
-        Written::Refused(n) => number(n as usize),
+        Written::Done => number(rt, 0)?,
+        Written::Refused(n) => number(rt, n as usize)?,
     }
     let after = grown.queue;
-    print_length(after);
-    after
+    print_length(rt, after)?;
+    Ok(after)
 }
 
-fn take(queue: ForcedPipeline) -> ForcedPipeline {
+fn take(rt: &impl Print, queue: ForcedPipeline) -> io::Result<ForcedPipeline> {
     let taken = queue::take_next(queue);
     let next = taken.next;
-    text(b"take ");
+    text(rt, b"take ")?;
     match next {
-        Next::Taken(position) => number(position.colour as usize),
-        Next::Nothing => text(b"nothing"),
+        Next::Taken(position) => number(rt, position.colour as usize)?,
+        Next::Nothing => text(rt, b"nothing")?,
         Next::Refused(n) => {
-            text(b"refused ");
-            number(n as usize);
+            text(rt, b"refused ")?;
+            number(rt, n as usize)?;
         }
     }
     let left = taken.queue;
-    print_length(left);
-    left
+    print_length(rt, left)?;
+    Ok(left)
 }
 
-fn take_some(queue: ForcedPipeline, times: usize) -> ForcedPipeline {
+fn take_some(rt: &impl Print, queue: ForcedPipeline, times: usize) -> io::Result<ForcedPipeline> {
     let mut left = queue;
     let mut i = 0;
     while i < times {
-        left = take(left);
+        left = take(rt, left)?;
         i += 1;
     }
-    left
+    Ok(left)
 }
 
 // The position of a serial number: its place, eight to a row, and the number as its colour.
@@ -143,44 +147,45 @@ fn waiting(place: World, len: usize) -> ForcedPipeline {
     }
 }
 
-fn fill() -> ForcedPipeline {
+fn fill(rt: &impl Print) -> io::Result<ForcedPipeline> {
     let mut queue = queue::new();
     let mut k: u32 = 0;
     while k < 8 {
-        queue = add(queue, positions(8 * k, 8));
+        queue = add(rt, queue, positions(8 * k, 8))?;
         k += 1;
     }
-    queue
+    Ok(queue)
 }
 
-fn main() {
-    text(b"64 entries, then one too many\n");
-    let full = fill();
-    add(full, positions(64, 1));
-    text(b"a place that is queued, with another colour\n");
-    add(full, single(World(7, 7), 99));
-    text(b"freed entries serve again\n");
-    let freed = take_some(full, 3);
-    let again = add(freed, positions(64, 3));
-    add(again, positions(67, 1));
-    text(b"first in, first out\n");
-    let none = take_some(again, 64);
-    print_empty(again);
-    print_empty(none);
-    take(none);
-    text(b"the same place twice in one list\n");
+fn main(rt: HostRuntime) -> io::Result<()> {
+    text(&rt, b"64 entries, then one too many\n")?;
+    let full = fill(&rt)?;
+    add(&rt, full, positions(64, 1))?;
+    text(&rt, b"a place that is queued, with another colour\n")?;
+    add(&rt, full, single(World(7, 7), 99))?;
+    text(&rt, b"freed entries serve again\n")?;
+    let freed = take_some(&rt, full, 3)?;
+    let again = add(&rt, freed, positions(64, 3))?;
+    add(&rt, again, positions(67, 1))?;
+    text(&rt, b"first in, first out\n")?;
+    let none = take_some(&rt, again, 64)?;
+    print_empty(&rt, again)?;
+    print_empty(&rt, none)?;
+    take(&rt, none)?;
+    text(&rt, b"the same place twice in one list\n")?;
     let twice = ForcedPositions {
         entries: [position(5); rules::ADDED_ROOM],
         len: 8,
     };
-    add(none, twice);
-    text(b"lengths and places out of bounds\n");
-    add(none, positions(0, 9));
-    add(none, single(World(1_000_001, 0), 1));
-    add(none, single(World(0, -1_000_000), 1));
-    take(waiting(World(0, 0), 65));
-    print_empty(waiting(World(0, 0), 65));
-    take(waiting(World(0, -1_000_001), 1));
-    text(b"entries past the length are not read\n");
-    take(waiting(World(0, -1_000_001), 0));
+    add(&rt, none, twice)?;
+    text(&rt, b"lengths and places out of bounds\n")?;
+    add(&rt, none, positions(0, 9))?;
+    add(&rt, none, single(World(1_000_001, 0), 1))?;
+    add(&rt, none, single(World(0, -1_000_000), 1))?;
+    take(&rt, waiting(World(0, 0), 65))?;
+    print_empty(&rt, waiting(World(0, 0), 65))?;
+    take(&rt, waiting(World(0, -1_000_001), 1))?;
+    text(&rt, b"entries past the length are not read\n")?;
+    take(&rt, waiting(World(0, -1_000_001), 0))?;
+    Ok(())
 }

@@ -54,8 +54,8 @@ module _ (s : Slots) (at : ℕ) (row col : ℤ) (f : mag row < 2 ^ 31) (g : mag 
   pub place_read : ◌≡◌ {A = World} (record { 0 = to_z w32 (of_z w32 row); 1 = to_z w32 (of_z w32 col) }) (in_slot s at).coordinates
   unfolding in_slot
   place_read =
-      let r : to_z w32 (of_z w32 row) ≡ get_or s.rows at (pos 0) = to_z-of_z (record { sfits = f }) ∙ p in
-      let c : to_z w32 (of_z w32 col) ≡ get_or s.cols at (pos 0) = to_z-of_z (record { sfits = g }) ∙ q in
+      let r : to_z w32 (of_z w32 row) ≡ get_or s.rows at (pos 0) = to_z-of_z {w = w32} (record { sfits = f }) ∙ p in
+      let c : to_z w32 (of_z w32 col) ≡ get_or s.cols at (pos 0) = to_z-of_z {w = w32} (record { sfits = g }) ∙ q in
       rw (r, c)
 
   pub entry_read : ◌≡◌ {A = ForcedPosition} (record { coordinates = record { 0 = to_z w32 (of_z w32 row); 1 = to_z w32 (of_z w32 col) }; colour = get_or s.colours at 0 }) (in_slot s at)

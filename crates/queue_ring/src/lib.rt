@@ -34,7 +34,7 @@ pub fn entry_in(
     at: usize,
 ) -> ForcedPosition
     requires { at < queue_room }
-    ensures { result ≡ in_slot (slots_before rows cols colours) at }
+    ensures { result ≡ in_slot (slots rows.now cols.now colours.now) at }
 {
     let row = number_in(rows, at);
     let col = number_in(cols, at);

@@ -13,7 +13,7 @@ pub const MARKS: usize = 64;
 pub const UNTOUCHED: u64 = 77;
 
 // How far the reading of a line has come: numbers stored, parts ended, and the digits of a number so far.
-#[derive(Drop)]
+#[derive(Clone, Copy)]
 struct State {
     values: usize,
     marks: usize,

@@ -8,7 +8,10 @@ mod laying;
 mod list;
 mod tiles;
 
-use libc::STDOUT_FILENO;
+use std::fs::File;
+use std::io;
+use std::io::Read;
+use std::rt::Files;
 
 const LONGEST_FILE: usize = 24576;
 
@@ -57,60 +60,56 @@ fn part(text: &[u8], from: usize, to: usize) -> &[u8] {
     &text[from..to]
 }
 
-fn text(values: &[u8]) {
-    io::write_all(STDOUT_FILENO, values);
+fn text(rt: &impl Print, values: &[u8]) -> io::Result<()> {
+    rt.write_all(values)
 }
 
-fn print_number(n: usize) {
+fn print_number(rt: &impl Print, n: usize) -> io::Result<()> {
     let bytes = [b'0' + (n / 10 % 10) as u8, b'0' + (n % 10) as u8];
-    text(&bytes);
+    text(rt, &bytes)
 }
 
 // Replays the records one by one, a hundred at the most, up to the first that differs.
-fn replay_all(step: usize, records: &[u8]) {
+fn replay_all(rt: &impl Print, step: usize, records: &[u8]) -> io::Result<()> {
     let mut from = 0;
     let mut k = 0;
     while k < 100 {
         if records.len() <= from {
-            print_number(k);
-            text(b" answers as recorded\n");
-            return;
+            print_number(rt, k)?;
+            return text(rt, b" answers as recorded\n");
         }
         let to = line_end(records, from);
         if !as_recorded(step, part(records, from, to)) {
-            text(b"record ");
-            print_number(k);
-            text(b" differs\n");
-            return;
+            text(rt, b"record ")?;
+            print_number(rt, k)?;
+            return text(rt, b" differs\n");
         }
         from = to;
         k += 1;
     }
+    Ok(())
 }
 
-fn replay(step: usize, name: &[u8]) {
-    text(name);
-    text(b": ");
-    let file = os::open_read(name);
-    if file < 0 {
-        text(b"no list\n");
-        return;
-    }
-    let mut input = [0u8; LONGEST_FILE];
-    let read = io::read_full(file, &mut input);
-    libc::close(file);
-    replay_all(step, &input[..read]);
+fn replay(rt: &(impl Files + Print + Alloc), step: usize, name: &str) -> io::Result<()> {
+    text(rt, name.as_bytes())?;
+    text(rt, b": ")?;
+    let Ok(file) = File::open(rt, name) else {
+        return text(rt, b"no list\n");
+    };
+    let mut input = Vec::new(rt.alloc());
+    file.take(LONGEST_FILE as u64).read_to_end(&mut input)?;
+    replay_all(rt, step, &input)
 }
 
-fn main() {
-    replay(0, b"extract");
-    replay(1, b"region-count");
-    replay(2, b"scan");
-    replay(3, b"weights-up");
-    replay(4, b"weights-down");
-    replay(5, b"recount");
-    replay(6, b"fresh");
-    replay(7, b"fitting-colours");
-    replay(8, b"lay");
-    replay(9, b"lift");
+fn main(rt: HostRuntime) -> io::Result<()> {
+    replay(&rt, 0, "extract")?;
+    replay(&rt, 1, "region-count")?;
+    replay(&rt, 2, "scan")?;
+    replay(&rt, 3, "weights-up")?;
+    replay(&rt, 4, "weights-down")?;
+    replay(&rt, 5, "recount")?;
+    replay(&rt, 6, "fresh")?;
+    replay(&rt, 7, "fitting-colours")?;
+    replay(&rt, 8, "lay")?;
+    replay(&rt, 9, "lift")
 }

@@ -3,7 +3,7 @@
 --     answers     all of them, for `search`
 -- Assumes nothing.
 use Prim.Native.Nat.{ℕ, zero, suc}
-use mathlib.Core.Path.{◌≡◌, refl, sym, ◌∙◌, ap}
+use mathlib.Core.Path.{◌≡◌, refl, ◌∙◌, ap}
 use mathlib.Core.Bool.{Bool, true}
 use lib.Ieee.{Float}
 use native.Mathlib.Omega.{arith}

@@ -1,7 +1,6 @@
 -- Document 01, "Places": spans, boxes, extension, the copy of a plane into a larger one.
 use Rattle.std.specs.Prelude.{ℕ, ◌+◌, ◌-◌, ◌*◌, ◌/◌, ◌%◌, Bool, ◌&&◌, List, leb, ltb, get_or, ℤ, pos, ◌+ℤ◌, ◌-ℤ◌, Float}
 use Rattle.std.specs.Int.Signed.{le_z}
-use Rattle.std.specs.Float.{nan}
 use Rattle.base.specs.Counting.{pick}
 use Rattle.base.specs.Tables.{tab}
 use Rattle.base.specs.Whole.{clip, eq_z}
@@ -10,7 +9,7 @@ use Rattle.rules.specs.Bounds.{max_radius, SHAPE, LENGTH, NUMBER, PLACE}
 use Rattle.rules.specs.Tests.{board_sides, has_length, row_index, col_index, on_wall, offset_fits}
 use Rattle.rules.specs.Grid.{cell_at, entry_of}
 use Rattle.rules.specs.Answers.{span_answer, verdict_answer, extension_answer}
-use Rattle.rules.specs.Floats.{one64, is_number, all_are}
+use Rattle.rules.specs.Floats.{is_number, all_are}
 use Rattle.rules.specs.declared.World.{World}
 use Rattle.rules.specs.declared.Cell.{Cell}
 use Rattle.rules.specs.declared.Offset.{Offset}

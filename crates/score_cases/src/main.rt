@@ -2,54 +2,56 @@
 // hexadecimal digits: 3ff0.. is 1.0, 3fe0.. 0.5, 3fd0.. 0.25. "Chequer" is the two tiles of the listing program's sample.
 #![tactic(auto)]
 
-use libc::STDOUT_FILENO;
 use rules::{Offset, Span, World, Written};
+use std::io;
 
 const CHEQUER: [u8; 18] = [1, 2, 1, 2, 1, 2, 1, 2, 1, 2, 1, 2, 1, 2, 1, 2, 1, 2];
 
-fn text(words: &[u8]) {
-    io::write_all(STDOUT_FILENO, words);
+fn text(rt: &impl Print, words: &[u8]) -> io::Result<()> {
+    rt.write_all(words)
 }
 
 // A NaN has no bits of its own: its sign and payload are not the rules'.
-fn bits(x: f64) {
-    text(b" ");
+fn bits(rt: &impl Print, x: f64) -> io::Result<()> {
+    text(rt, b" ")?;
     if x == x {
-        io::print_hex(STDOUT_FILENO, f64::to_bits(x), 16);
+        print!(rt; "{:016x}", f64::to_bits(x))
     } else {
-        text(b"nan");
+        text(rt, b"nan")
     }
 }
 
-fn end_of_row(k: usize, cols: usize) {
+fn end_of_row(rt: &impl Print, k: usize, cols: usize) -> io::Result<()> {
     if 0 < cols {
         if k % cols == 0 {
-            text(b"\n");
+            text(rt, b"\n")?;
         }
     }
+    Ok(())
 }
 
 // A plane, so many cells a line.
-fn plane_of(xs: &[f64], cols: usize) {
+fn plane_of(rt: &impl Print, xs: &[f64], cols: usize) -> io::Result<()> {
     let mut k = 0;
     while k < xs.len() {
-        bits(xs[k]);
+        bits(rt, xs[k])?;
         k += 1;
-        end_of_row(k, cols);
+        end_of_row(rt, k, cols)?;
     }
+    Ok(())
 }
 
-fn line(xs: &[f64]) {
-    plane_of(xs, xs.len());
+fn line(rt: &impl Print, xs: &[f64]) -> io::Result<()> {
+    plane_of(rt, xs, xs.len())
 }
 
-fn answered(answer: Written) {
+fn answered(rt: &impl Print, answer: Written) -> io::Result<()> {
     match answer {
-        Written::Done => text(b"done\n"),
+        Written::Done => text(rt, b"done\n"),
         Written::Refused(n) => {
-            text(b"refused ");
-            io::print_decimal(STDOUT_FILENO, n as u64);
-            text(b"\n");
+            text(rt, b"refused ")?;
+            rt.print(n as u64)?;
+            text(rt, b"\n")
         }
     }
 }
@@ -64,102 +66,139 @@ fn no_number() -> f64 {
 
 // ---- normalising. Out holds 9.0 before each call.
 
-fn two(plane: &[f64], rows: usize, cols: usize, place: World, offset: Offset) {
+fn two(
+    rt: &impl Print,
+    plane: &[f64],
+    rows: usize,
+    cols: usize,
+    place: World,
+    offset: Offset,
+) -> io::Result<()> {
     let mut out = [9.0f64; 2];
-    answered(probabilities::get_tile_probabilities_at_position(
-        plane, rows, cols, 2, place, offset, &mut out,
-    ));
-    line(&out);
+    answered(
+        rt,
+        probabilities::get_tile_probabilities_at_position(
+            plane, rows, cols, 2, place, offset, &mut out,
+        ),
+    )?;
+    line(rt, &out)
 }
 
-fn four(plane: &[f64; 4], place: World) {
+fn four(rt: &impl Print, plane: &[f64; 4], place: World) -> io::Result<()> {
     let mut out = [9.0f64; 4];
-    answered(probabilities::get_tile_probabilities_at_position(
-        plane,
-        1,
-        1,
-        4,
-        place,
-        Offset(0, 0),
-        &mut out,
-    ));
-    line(&out);
+    answered(
+        rt,
+        probabilities::get_tile_probabilities_at_position(
+            plane,
+            1,
+            1,
+            4,
+            place,
+            Offset(0, 0),
+            &mut out,
+        ),
+    )?;
+    line(rt, &out)
 }
 
-fn normalising() {
+fn normalising(rt: &impl Print) -> io::Result<()> {
     let here = World(0, 0);
     let none = Offset(0, 0);
-    text(b"2.0, 2.0\n");
-    two(&[2.0f64, 2.0], 1, 1, here, none);
-    text(b"four zeros\n");
-    four(&[0.0f64; 4], here);
-    text(b"off the board, four colours\n");
-    four(&[1.0f64, 2.0, 3.0, 4.0], World(1, 0));
-    text(b"1.0, 1.0, 1.0, 10.0: by the largest, summed upwards, by the total\n");
-    four(&[1.0f64, 1.0, 1.0, 10.0], here);
-    text(b"one infinite\n");
-    two(&[infinity(), 2.0], 1, 1, here, none);
-    text(b"-0.0, 1.0\n");
-    two(&[-0.0f64, 1.0], 1, 1, here, none);
+    text(rt, b"2.0, 2.0\n")?;
+    two(rt, &[2.0f64, 2.0], 1, 1, here, none)?;
+    text(rt, b"four zeros\n")?;
+    four(rt, &[0.0f64; 4], here)?;
+    text(rt, b"off the board, four colours\n")?;
+    four(rt, &[1.0f64, 2.0, 3.0, 4.0], World(1, 0))?;
+    text(
+        rt,
+        b"1.0, 1.0, 1.0, 10.0: by the largest, summed upwards, by the total\n",
+    )?;
+    four(rt, &[1.0f64, 1.0, 1.0, 10.0], here)?;
+    text(rt, b"one infinite\n")?;
+    two(rt, &[infinity(), 2.0], 1, 1, here, none)?;
+    text(rt, b"-0.0, 1.0\n")?;
+    two(rt, &[-0.0f64, 1.0], 1, 1, here, none)?;
     let plane = [1.0f64, 3.0, 1.0, 5.0, 1.0, 1.0, 3.0, 5.0];
-    text(b"2x2 with 1.0 3.0 1.0 5.0 and 1.0 1.0 3.0 5.0: (0,0), (0,1), (1,0)\n");
-    two(&plane, 2, 2, here, none);
-    two(&plane, 2, 2, World(0, 1), none);
-    two(&plane, 2, 2, World(1, 0), none);
-    text(b"(1,0) of it by an offset\n");
-    two(&plane, 2, 2, World(-10, 20), Offset(11, -20));
+    text(
+        rt,
+        b"2x2 with 1.0 3.0 1.0 5.0 and 1.0 1.0 3.0 5.0: (0,0), (0,1), (1,0)\n",
+    )?;
+    two(rt, &plane, 2, 2, here, none)?;
+    two(rt, &plane, 2, 2, World(0, 1), none)?;
+    two(rt, &plane, 2, 2, World(1, 0), none)?;
+    text(rt, b"(1,0) of it by an offset\n")?;
+    two(rt, &plane, 2, 2, World(-10, 20), Offset(11, -20))
 }
 
 // Out has room for 31 colours; its first and last entries are shown.
-fn many(plane: &[f64], count: u32, place: World, offset: Offset) {
+fn many(
+    rt: &impl Print,
+    plane: &[f64],
+    count: u32,
+    place: World,
+    offset: Offset,
+) -> io::Result<()> {
     let mut out = [9.0f64; 31];
-    answered(probabilities::get_tile_probabilities_at_position(
-        plane, 1, 1, count, place, offset, &mut out,
-    ));
-    bits(out[0]);
-    bits(out[30]);
-    text(b"\n");
+    answered(
+        rt,
+        probabilities::get_tile_probabilities_at_position(
+            plane, 1, 1, count, place, offset, &mut out,
+        ),
+    )?;
+    bits(rt, out[0])?;
+    bits(rt, out[30])?;
+    text(rt, b"\n")
 }
 
-fn normalising_refused() {
+fn normalising_refused(rt: &impl Print) -> io::Result<()> {
     let here = World(0, 0);
     let none = Offset(0, 0);
-    text(b"normalising: side 0, side 65, a plane too long, out too long, 31 colours\n");
-    two(&[2.0f64, 2.0], 0, 1, here, none);
-    two(&[2.0f64, 2.0], 1, 65, here, none);
-    two(&[2.0f64, 2.0, 2.0], 1, 1, here, none);
-    many(&[2.0f64; 30], 30, here, none);
-    many(&[2.0f64; 31], 31, here, none);
-    text(b"a NaN, one below zero, a coordinate and an offset out of bounds\n");
-    two(&[2.0f64, no_number()], 1, 1, here, none);
-    two(&[-0.5f64, 2.0], 1, 1, here, none);
-    two(&[2.0f64, 2.0], 1, 1, World(1_000_001, 0), none);
-    two(&[2.0f64, 2.0], 1, 1, here, Offset(0, -999_938));
-    text(b"SHAPE, LENGTH, NUMBER and PLACE at once\n");
+    text(
+        rt,
+        b"normalising: side 0, side 65, a plane too long, out too long, 31 colours\n",
+    )?;
+    two(rt, &[2.0f64, 2.0], 0, 1, here, none)?;
+    two(rt, &[2.0f64, 2.0], 1, 65, here, none)?;
+    two(rt, &[2.0f64, 2.0, 2.0], 1, 1, here, none)?;
+    many(rt, &[2.0f64; 30], 30, here, none)?;
+    many(rt, &[2.0f64; 31], 31, here, none)?;
+    text(
+        rt,
+        b"a NaN, one below zero, a coordinate and an offset out of bounds\n",
+    )?;
+    two(rt, &[2.0f64, no_number()], 1, 1, here, none)?;
+    two(rt, &[-0.5f64, 2.0], 1, 1, here, none)?;
+    two(rt, &[2.0f64, 2.0], 1, 1, World(1_000_001, 0), none)?;
+    two(rt, &[2.0f64, 2.0], 1, 1, here, Offset(0, -999_938))?;
+    text(rt, b"SHAPE, LENGTH, NUMBER and PLACE at once\n")?;
     two(
+        rt,
         &[-0.5f64, 2.0, 2.0],
         0,
         1,
         World(1_000_001, 0),
         Offset(0, -999_938),
-    );
+    )
 }
 
 // ---- the product step and its reverse, on 3x3
 
 // One colour, every probability 8.0, by a block 2.0 4.0 / 0.0 0.5, and back.
-fn one_colour(place: World, radius: usize) {
+fn one_colour(rt: &impl Print, place: World, radius: usize) -> io::Result<()> {
     let block = [2.0f64, 4.0, 0.0, 0.5];
     let mut plane = [8.0f64; 9];
     let none = Offset(0, 0);
-    answered(probabilities::update_probabilities(
-        &mut plane, 3, 3, 1, &block, 2, 2, place, none, radius,
-    ));
-    plane_of(&plane, 3);
-    answered(probabilities::revert_probabilities(
-        &mut plane, 3, 3, 1, &block, 2, 2, place, none, radius,
-    ));
-    plane_of(&plane, 3);
+    answered(
+        rt,
+        probabilities::update_probabilities(&mut plane, 3, 3, 1, &block, 2, 2, place, none, radius),
+    )?;
+    plane_of(rt, &plane, 3)?;
+    answered(
+        rt,
+        probabilities::revert_probabilities(&mut plane, 3, 3, 1, &block, 2, 2, place, none, radius),
+    )?;
+    plane_of(rt, &plane, 3)
 }
 
 fn eights_and_ones() -> [f64; 18] {
@@ -169,57 +208,46 @@ fn eights_and_ones() -> [f64; 18] {
 }
 
 // Two colours, 8.0 and 1.0, each by its part of the block: 2.0 4.0 and 0.25 3.0.
-fn two_colours() {
+fn two_colours(rt: &impl Print) -> io::Result<()> {
     let block = [2.0f64, 4.0, 0.25, 3.0];
     let at = World(-5, 12);
     let offset = Offset(6, -11);
     let mut raised = eights_and_ones();
-    answered(probabilities::update_probabilities(
-        &mut raised,
-        3,
-        3,
-        2,
-        &block,
-        1,
-        2,
-        at,
-        offset,
-        1,
-    ));
-    plane_of(&raised, 3);
+    answered(
+        rt,
+        probabilities::update_probabilities(&mut raised, 3, 3, 2, &block, 1, 2, at, offset, 1),
+    )?;
+    plane_of(rt, &raised, 3)?;
     let mut lowered = eights_and_ones();
-    answered(probabilities::revert_probabilities(
-        &mut lowered,
-        3,
-        3,
-        2,
-        &block,
-        1,
-        2,
-        at,
-        offset,
-        0,
-    ));
-    plane_of(&lowered, 3);
+    answered(
+        rt,
+        probabilities::revert_probabilities(&mut lowered, 3, 3, 2, &block, 1, 2, at, offset, 0),
+    )?;
+    plane_of(rt, &lowered, 3)
 }
 
-fn products() {
+fn products(rt: &impl Print) -> io::Result<()> {
     text(
+        rt,
         b"8.0 by 2.0 4.0 / 0.0 0.5, place (0,0), radius 1: clipped at the first row and column; and back\n",
-    );
-    one_colour(World(0, 0), 1);
-    text(b"place (1,1): beyond the block\n");
-    one_colour(World(1, 1), 1);
-    text(b"place (2,2): clipped at the last\n");
-    one_colour(World(2, 2), 1);
-    text(b"place (2,1), radius 0\n");
-    one_colour(World(2, 1), 0);
-    text(b"two colours, place (1,1) by an offset, radius 1: the product; radius 0: the quotient\n");
-    two_colours();
+    )?;
+    one_colour(rt, World(0, 0), 1)?;
+    text(rt, b"place (1,1): beyond the block\n")?;
+    one_colour(rt, World(1, 1), 1)?;
+    text(rt, b"place (2,2): clipped at the last\n")?;
+    one_colour(rt, World(2, 2), 1)?;
+    text(rt, b"place (2,1), radius 0\n")?;
+    one_colour(rt, World(2, 1), 0)?;
+    text(
+        rt,
+        b"two colours, place (1,1) by an offset, radius 1: the product; radius 0: the quotient\n",
+    )?;
+    two_colours(rt)
 }
 
 // Both calls on one colour, 3x3, where each refuses: the plane is shown after both.
 fn both(
+    rt: &impl Print,
     plane: &mut [f64],
     rows: usize,
     count: u32,
@@ -227,48 +255,72 @@ fn both(
     blockrows: usize,
     place: World,
     radius: usize,
-) {
+) -> io::Result<()> {
     let none = Offset(0, 0);
-    answered(probabilities::update_probabilities(
-        plane, rows, 3, count, block, blockrows, 1, place, none, radius,
-    ));
-    answered(probabilities::revert_probabilities(
-        plane, rows, 3, count, block, blockrows, 1, place, none, radius,
-    ));
-    line(plane);
+    answered(
+        rt,
+        probabilities::update_probabilities(
+            plane, rows, 3, count, block, blockrows, 1, place, none, radius,
+        ),
+    )?;
+    answered(
+        rt,
+        probabilities::revert_probabilities(
+            plane, rows, 3, count, block, blockrows, 1, place, none, radius,
+        ),
+    )?;
+    line(rt, plane)
 }
 
-fn products_refused() {
+fn products_refused(rt: &impl Print) -> io::Result<()> {
     let here = World(0, 0);
     let block = [2.0f64; 1];
     let mut row = [8.0f64, 7.0, 6.0];
-    text(b"product and quotient: side 0, block side 0, block side 128, radius 64\n");
-    both(&mut row, 0, 1, &block, 1, here, 1);
-    both(&mut row, 1, 1, &block, 0, here, 1);
-    both(&mut row, 1, 1, &[2.0f64; 128], 128, here, 1);
-    both(&mut row, 1, 1, &block, 1, here, 64);
-    text(b"a plane too short, a block too long, no colour, off the board\n");
-    both(&mut row, 2, 1, &block, 1, here, 1);
-    both(&mut row, 1, 1, &[2.0f64; 2], 1, here, 1);
-    both(&mut [0.0f64; 0], 1, 0, &[0.0f64; 0], 1, here, 1);
-    both(&mut row, 1, 1, &block, 1, World(0, 3), 1);
+    text(
+        rt,
+        b"product and quotient: side 0, block side 0, block side 128, radius 64\n",
+    )?;
+    both(rt, &mut row, 0, 1, &block, 1, here, 1)?;
+    both(rt, &mut row, 1, 1, &block, 0, here, 1)?;
+    both(rt, &mut row, 1, 1, &[2.0f64; 128], 128, here, 1)?;
+    both(rt, &mut row, 1, 1, &block, 1, here, 64)?;
+    text(
+        rt,
+        b"a plane too short, a block too long, no colour, off the board\n",
+    )?;
+    both(rt, &mut row, 2, 1, &block, 1, here, 1)?;
+    both(rt, &mut row, 1, 1, &[2.0f64; 2], 1, here, 1)?;
+    both(rt, &mut [0.0f64; 0], 1, 0, &[0.0f64; 0], 1, here, 1)?;
+    both(rt, &mut row, 1, 1, &block, 1, World(0, 3), 1)
 }
 
-fn factors_refused() {
+fn factors_refused(rt: &impl Print) -> io::Result<()> {
     let here = World(0, 0);
     let mut row = [8.0f64, 7.0, 6.0];
-    text(b"a factor that is NaN, below zero, infinite\n");
-    both(&mut row, 1, 1, &[no_number()], 1, here, 1);
-    both(&mut row, 1, 1, &[-2.0f64], 1, here, 1);
-    both(&mut row, 1, 1, &[infinity()], 1, here, 1);
-    text(b"a probability that is NaN, below zero, infinite\n");
+    text(rt, b"a factor that is NaN, below zero, infinite\n")?;
+    both(rt, &mut row, 1, 1, &[no_number()], 1, here, 1)?;
+    both(rt, &mut row, 1, 1, &[-2.0f64], 1, here, 1)?;
+    both(rt, &mut row, 1, 1, &[infinity()], 1, here, 1)?;
+    text(rt, b"a probability that is NaN, below zero, infinite\n")?;
     let block = [2.0f64; 1];
-    both(&mut [8.0f64, 7.0, no_number()], 1, 1, &block, 1, here, 1);
-    both(&mut [8.0f64, -7.0, 6.0], 1, 1, &block, 1, here, 1);
-    both(&mut [8.0f64, 7.0, infinity()], 1, 1, &block, 1, here, 1);
-    text(b"SHAPE, LENGTH, COUNT, NUMBER and PLACE at once, and without SHAPE\n");
-    both(&mut row, 0, 31, &[-2.0f64], 1, World(9, 9), 1);
-    both(&mut row, 1, 31, &[-2.0f64], 1, World(9, 9), 1);
+    both(
+        rt,
+        &mut [8.0f64, 7.0, no_number()],
+        1,
+        1,
+        &block,
+        1,
+        here,
+        1,
+    )?;
+    both(rt, &mut [8.0f64, -7.0, 6.0], 1, 1, &block, 1, here, 1)?;
+    both(rt, &mut [8.0f64, 7.0, infinity()], 1, 1, &block, 1, here, 1)?;
+    text(
+        rt,
+        b"SHAPE, LENGTH, COUNT, NUMBER and PLACE at once, and without SHAPE\n",
+    )?;
+    both(rt, &mut row, 0, 31, &[-2.0f64], 1, World(9, 9), 1)?;
+    both(rt, &mut row, 1, 31, &[-2.0f64], 1, World(9, 9), 1)
 }
 
 // ---- scores. Each stands at 7.0 before a call.
@@ -294,88 +346,135 @@ fn chequer_counts() -> [u32; 25] {
     counts
 }
 
-fn lay_score(place: World, offset: Offset) {
+fn lay_score(rt: &impl Print, place: World, offset: Offset) -> io::Result<()> {
     let counts = chequer_counts();
     let mut scores = [7.0f64; 25];
-    answered(scores::update_feasibility(&mut scores, &counts, 5, 5, 2, place, offset));
-    plane_of(&scores, 5);
+    answered(
+        rt,
+        scores::update_feasibility(&mut scores, &counts, 5, 5, 2, place, offset),
+    )?;
+    plane_of(rt, &scores, 5)
 }
 
-fn lift_score(rowspan: Span, colspan: Span) {
+fn lift_score(rt: &impl Print, rowspan: Span, colspan: Span) -> io::Result<()> {
     let counts = chequer_counts();
     let mut scores = [7.0f64; 25];
-    answered(scores::aggregate_feasibility(&mut scores, &counts, 5, 5, 2, rowspan, colspan));
-    plane_of(&scores, 5);
+    answered(
+        rt,
+        scores::aggregate_feasibility(&mut scores, &counts, 5, 5, 2, rowspan, colspan),
+    )?;
+    plane_of(rt, &scores, 5)
 }
 
 // Nine fractions whose sum depends on the order: 5 0 4 / 1 6 3 / 3 4 1 of 6.
-fn row_by_row() {
+fn row_by_row(rt: &impl Print) -> io::Result<()> {
     let counts = [5u32, 0, 4, 1, 6, 3, 3, 4, 1];
     let mut scores = [7.0f64; 9];
-    answered(scores::update_feasibility(&mut scores, &counts, 3, 3, 6, World(1, 1), Offset(0, 0)));
-    plane_of(&scores, 3);
-    answered(scores::aggregate_feasibility(&mut scores, &counts, 3, 3, 6, Span(2, 3), Span(2, 3)));
-    plane_of(&scores, 3);
+    answered(
+        rt,
+        scores::update_feasibility(&mut scores, &counts, 3, 3, 6, World(1, 1), Offset(0, 0)),
+    )?;
+    plane_of(rt, &scores, 3)?;
+    answered(
+        rt,
+        scores::aggregate_feasibility(&mut scores, &counts, 3, 3, 6, Span(2, 3), Span(2, 3)),
+    )?;
+    plane_of(rt, &scores, 3)
 }
 
-fn scoring() {
-    text(b"chequer 5x5, 1 laid at (2,2): lay score\n");
-    lay_score(World(2, 2), Offset(0, 0));
-    text(b"round (4,4) by an offset\n");
-    lay_score(World(1, 6), Offset(3, -2));
-    text(b"lift score, rows 0 to 5, columns 0 to 5\n");
-    lift_score(Span(0, 5), Span(0, 5));
-    text(b"rows 2 to 3, columns 1 to 4\n");
-    lift_score(Span(2, 3), Span(1, 4));
-    text(b"rows 3 to 2: empty\n");
-    lift_score(Span(3, 2), Span(0, 5));
-    text(b"3x3, 5 0 4 / 1 6 3 / 3 4 1 of 6 tiles: lay score, then lift score at (2,2)\n");
-    row_by_row();
+fn scoring(rt: &impl Print) -> io::Result<()> {
+    text(rt, b"chequer 5x5, 1 laid at (2,2): lay score\n")?;
+    lay_score(rt, World(2, 2), Offset(0, 0))?;
+    text(rt, b"round (4,4) by an offset\n")?;
+    lay_score(rt, World(1, 6), Offset(3, -2))?;
+    text(rt, b"lift score, rows 0 to 5, columns 0 to 5\n")?;
+    lift_score(rt, Span(0, 5), Span(0, 5))?;
+    text(rt, b"rows 2 to 3, columns 1 to 4\n")?;
+    lift_score(rt, Span(2, 3), Span(1, 4))?;
+    text(rt, b"rows 3 to 2: empty\n")?;
+    lift_score(rt, Span(3, 2), Span(0, 5))?;
+    text(
+        rt,
+        b"3x3, 5 0 4 / 1 6 3 / 3 4 1 of 6 tiles: lay score, then lift score at (2,2)\n",
+    )?;
+    row_by_row(rt)
 }
 
 // Both calls on 1 row of 3 cells: the scores are shown after both.
 fn both_scores(
+    rt: &impl Print,
     scores: &mut [f64],
     counts: &[u32],
     rows: usize,
     tiles: usize,
     place: World,
     colspan: Span,
-) {
+) -> io::Result<()> {
     let none = Offset(0, 0);
-    answered(scores::update_feasibility(scores, counts, rows, 3, tiles, place, none));
-    answered(scores::aggregate_feasibility(scores, counts, rows, 3, tiles, Span(0, 0), colspan));
-    line(scores);
+    answered(
+        rt,
+        scores::update_feasibility(scores, counts, rows, 3, tiles, place, none),
+    )?;
+    answered(
+        rt,
+        scores::aggregate_feasibility(scores, counts, rows, 3, tiles, Span(0, 0), colspan),
+    )?;
+    line(rt, scores)
 }
 
-fn scores_refused() {
+fn scores_refused(rt: &impl Print) -> io::Result<()> {
     let here = World(0, 0);
     let all = Span(0, 3);
     let counts = [2u32, 1, 2];
     let mut row = [7.0f64, 6.0, 5.0];
-    text(b"scores: side 0, scores too short, counts too long, no tiles, 7,201 tiles\n");
-    both_scores(&mut row, &counts, 0, 2, here, all);
-    both_scores(&mut [7.0f64, 6.0], &counts, 1, 2, here, all);
-    both_scores(&mut row, &[2u32, 1, 2, 1], 1, 2, here, all);
-    both_scores(&mut row, &counts, 1, 0, here, all);
-    both_scores(&mut row, &counts, 1, 7_201, here, all);
-    text(b"a count above the tiles; a score that is NaN, below zero, infinite\n");
-    both_scores(&mut row, &counts, 1, 1, here, all);
-    both_scores(&mut [7.0f64, no_number(), 5.0], &counts, 1, 2, here, all);
-    both_scores(&mut [7.0f64, 6.0, -5.0], &counts, 1, 2, here, all);
-    both_scores(&mut [infinity(), 6.0, 5.0], &counts, 1, 2, here, all);
-    text(b"the lay off the board, the lift with a span end past it\n");
-    both_scores(&mut row, &counts, 1, 2, World(1, 0), Span(0, 4));
-    text(b"LENGTH, CELL, NUMBER and PLACE or SHAPE at once\n");
-    both_scores(&mut [7.0f64, -6.0], &counts, 1, 1, World(1, 0), Span(0, 4));
+    text(
+        rt,
+        b"scores: side 0, scores too short, counts too long, no tiles, 7,201 tiles\n",
+    )?;
+    both_scores(rt, &mut row, &counts, 0, 2, here, all)?;
+    both_scores(rt, &mut [7.0f64, 6.0], &counts, 1, 2, here, all)?;
+    both_scores(rt, &mut row, &[2u32, 1, 2, 1], 1, 2, here, all)?;
+    both_scores(rt, &mut row, &counts, 1, 0, here, all)?;
+    both_scores(rt, &mut row, &counts, 1, 7_201, here, all)?;
+    text(
+        rt,
+        b"a count above the tiles; a score that is NaN, below zero, infinite\n",
+    )?;
+    both_scores(rt, &mut row, &counts, 1, 1, here, all)?;
+    both_scores(
+        rt,
+        &mut [7.0f64, no_number(), 5.0],
+        &counts,
+        1,
+        2,
+        here,
+        all,
+    )?;
+    both_scores(rt, &mut [7.0f64, 6.0, -5.0], &counts, 1, 2, here, all)?;
+    both_scores(rt, &mut [infinity(), 6.0, 5.0], &counts, 1, 2, here, all)?;
+    text(
+        rt,
+        b"the lay off the board, the lift with a span end past it\n",
+    )?;
+    both_scores(rt, &mut row, &counts, 1, 2, World(1, 0), Span(0, 4))?;
+    text(rt, b"LENGTH, CELL, NUMBER and PLACE or SHAPE at once\n")?;
+    both_scores(
+        rt,
+        &mut [7.0f64, -6.0],
+        &counts,
+        1,
+        1,
+        World(1, 0),
+        Span(0, 4),
+    )
 }
 
-fn main() {
-    normalising();
-    normalising_refused();
-    products();
-    products_refused();
-    factors_refused();
-    scoring();
-    scores_refused();
+fn main(rt: HostRuntime) -> io::Result<()> {
+    normalising(&rt)?;
+    normalising_refused(&rt)?;
+    products(&rt)?;
+    products_refused(&rt)?;
+    factors_refused(&rt)?;
+    scoring(&rt)?;
+    scores_refused(&rt)
 }

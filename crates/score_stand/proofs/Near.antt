@@ -8,16 +8,14 @@
 use Prim.Native.Nat.{ℕ, zero, suc, ◌+◌, ◌-◌, ◌*◌, ◌/◌, ◌%◌, ◌<◌, ◌≤◌}
 use mathlib.Core.Path.{◌≡◌, refl, sym, ◌∙◌, ap, subst}
 use mathlib.Core.Bool.{Bool, true, false, ◌&&◌}
-use mathlib.Core.Logic.{◌≢◌}
-use mathlib.Core.List.{List, [], ◌∷◌, ◌++◌}
+use mathlib.Core.List.{List}
 use native.Mathlib.Omega.{arith}
 use lib.Dec.{leb, ltb}
 use lib.ListN.{length, get_or, set, length-set}
 use lib.Ieee.{Float, nan}
-use borrow.Author.Tests.{leb-true, ltb-true}
+use borrow.Author.Tests.{leb-true}
 use Rattle.base.specs.Counting.{pick}
 use Rattle.base.specs.Tables.{tab, those, fold}
-use Rattle.base.specs.Regions.{between}
 use Rattle.base.proofs.Chain.{either}
 use Rattle.base.proofs.Bools.{never, by-test, and_left, and_right, and_both}
 use Rattle.base.proofs.Numbers.{row_of, col-of, row_lt, col-lt, cell-lt}

@@ -14,9 +14,9 @@ use lib.Ieee.{Float}
 use borrow.Author.Tests.{eq-eqb}
 use Rattle.base.specs.Refusal.{refusal}
 use Rattle.base.proofs.Chain.{none-fails}
-use Rattle.rules.specs.Tests.{board_sides, has_length, tile_number_fits, tiles_in, none_above}
+use Rattle.rules.specs.Tests.{board_sides, has_length, tile_number_fits, tiles_in}
 use Rattle.rules.specs.Scores.{whole_score_checks}
-use Rattle.rules.specs.Board.{Panel, shape_of, board_of, counts_of}
+use Rattle.rules.specs.Board.{Panel, board_of}
 use Rattle.rules.specs.Promises.{panel}
 use Rattle.rules.specs.declared.World.{World}
 use Rattle.rules.specs.declared.Offset.{Offset}

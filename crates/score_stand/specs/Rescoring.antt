@@ -1,6 +1,6 @@
 -- Demand 3 for plain scores (document 02, request 4): "A whole-board scoring by it depends only on the counts, so demand 3 now covers that
 -- plane where it has been rescored after the last call."
-use Rattle.std.specs.Prelude.{ℕ, List, Float}
+use Rattle.std.specs.Prelude.{List, Float}
 use Rattle.rules.specs.Tests.{tiles_in}
 use Rattle.rules.specs.Scores.{whole_scores}
 use Rattle.rules.specs.Probabilities.{Region, region_of}

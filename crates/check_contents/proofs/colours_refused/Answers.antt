@@ -9,9 +9,6 @@ returns-then-not-colour_count c = search chain depth 20 fits 5000
 pub returns-then-not-no_byte_above : goal.returns-then-not-no_byte_above
 returns-then-not-no_byte_above c = search chain depth 20 fits 5000
 
-pub pieces_stored-requires : goal.pieces_stored-requires
-pieces_stored-requires c = passes _ c.before.before.before.colour_count.ensures c.before.before.if-not-colour_count.false-raw
-
 pub returns-then-not-pieces_stored : goal.returns-then-not-pieces_stored
 returns-then-not-pieces_stored c = search chain depth 20 fits 5000
 

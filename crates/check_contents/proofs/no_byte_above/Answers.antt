@@ -18,7 +18,7 @@ loop-k-init c = search rules
 
 pub loop-k-preserved : goal.loop-k-preserved
 loop-k-preserved c =
-    let byte : (i : ℕ) → get_or c.before.before.before.before.before.before.before.args.plane.now i 0 < 256 = λ i. omega (arith, c.before.before.before.before.before.before.shared_slice_known-1.given i) in
+    let byte : (i : ℕ) → get_or c.args.plane.now i 0 < 256 = λ i. omega (arith, c.type_inv.plane i) in
     (search rules, every-turn _ c.before.before.before.before.loop-k.invariant.1 (c.before.byte_up_to.ensures ∙ c.before.before.before.before.before.byte_limit-limit.ensures _ (byte _)) c.and_too-fine.ensures)
 
 pub returns : goal.returns

@@ -3,7 +3,6 @@ use mathlib.Core.Path.{sym, ◌∙◌, ap}
 use Rattle.rules.specs.Grid.{cell_at, colour_on}
 use Rattle.fit_pattern.proofs.Windows.{bare-past}
 use Rattle.fit_pattern.proofs.Patch.{back_on, back_above, back-left}
-use borrow.Author.Rules.{rules}
 use Rattle.fit_pattern.proofs.colour_back.Goals as goal
 
 pub returns-then-r-lt-REACH : goal.returns-then-r-lt-REACH

@@ -7,17 +7,16 @@ use Rattle.fit_pattern.specs.Patch.{shown_in}
 use Rattle.fit_pattern.specs.Packed.{packed}
 use Rattle.fit_pattern.proofs.Packed.{packed-mono, masks-is}
 use Rattle.fit_pattern.proofs.Patch.{shown-each}
-use borrow.Author.Rules.{rules}
 use Rattle.fit_pattern.proofs.eight_masks.Goals.{After-eight-colours}
 use Rattle.fit_pattern.proofs.eight_masks.Goals as goal
 
 -- each cell holds a colour
 module _ (c : After-eight-colours) where
   abbrev shown : ℕ → ℕ
-  shown = let a = c.before.before.args in shown_in a.cells.now a.width a.at
+  shown = let a = c.args in shown_in a.cells.now a.width a.at
 
   small : (i : ℕ) → shown i ≤ max_colours
-  small = let a = c.before.before.args in shown-each a.cells.now a.width a.at (λ x. x ≤ max_colours) c.before.before.requires.1.known
+  small = let a = c.args in shown-each a.cells.now a.width a.at (λ x. x ≤ max_colours) c.requires.painted.known
 
   few : c.eight-colours.result ≤ packed 8 (λ i. max_colours)
   few = rw c.eight-colours.ensures (packed-mono 8 shown (λ i. max_colours) (λ i l. small i))

@@ -2,22 +2,21 @@
 use Prim.Native.Nat.{◌+◌}
 use native.Mathlib.Omega.{arith}
 use Rattle.fit_pattern.proofs.Packed.{pair_is}
-use borrow.Author.Rules.{rules}
 use Rattle.fit_pattern.proofs.pair.Goals as goal
 
 pub overflow_cast-low : goal.overflow_cast-low
-overflow_cast-low c = record { fits = omega (arith, c.shared_slice_known-1.given c.before.args.at) }
+overflow_cast-low c = record { fits = omega (arith, c.type_inv.cells c.args.at) }
 
 pub overflow_cast-high : goal.overflow_cast-high
-overflow_cast-high c = record { fits = omega (arith, c.shared_slice_known-2-1.given (c.before.before.args.at + 1)) }
+overflow_cast-high c = record { fits = omega (arith, c.type_inv.cells (c.args.at + 1)) }
 
 pub overflow_mul-result : goal.overflow_mul-result
-overflow_mul-result c = record { fits = omega (arith, c.shared_slice_known-2-1.given (c.before.before.args.at + 1)) }
+overflow_mul-result c = record { fits = omega (arith, c.type_inv.cells (c.args.at + 1)) }
 
 pub overflow_add-result : goal.overflow_add-result
 overflow_add-result c =
-    let at = c.before.before.args.at in
-    record { fits = omega (arith, c.shared_slice_known-2-1.given (at + 1), c.before.shared_slice_known-1.given at) }
+    let at = c.args.at in
+    record { fits = omega (arith, c.type_inv.cells (at + 1), c.type_inv.cells at) }
 
 pub returns : goal.returns
-returns c = pair_is c.before.before.args.cells.now c.before.before.args.at
+returns c = pair_is c.args.cells.now c.args.at

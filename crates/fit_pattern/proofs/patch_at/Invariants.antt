@@ -1,10 +1,9 @@
 -- `fit_pattern::patch_at` meets its contract. The loop's invariant: the places passed hold their colours. Assumes nothing.
 use Prim.Native.Nat.{◌-◌, ◌≤◌}
-use mathlib.Core.Path.{◌≡◌, ◌∙◌}
-use Rattle.base.proofs.Swept.{swept, swept_none, swept-turn, swept_all}
+use mathlib.Core.Path.{◌≡◌}
+use Rattle.base.proofs.Swept.{swept}
 use Rattle.rules.specs.Grid.{cell_at}
 use Rattle.fit_pattern.specs.Patch.{patch_round}
-use borrow.Author.Rules.{rules}
 use Rattle.fit_pattern.proofs.patch_at.Given as goal
 
 abbrev pub invariant-loop-j : goal.invariant-loop-j

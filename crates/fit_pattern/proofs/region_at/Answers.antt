@@ -1,7 +1,6 @@
 -- `fit_pattern::region_at` meets its contract. The loop's invariant: the places passed hold their colours. Assumes nothing.
-use Prim.Native.Nat.{◌-◌, ◌≤◌}
-use mathlib.Core.Path.{◌≡◌, ◌∙◌}
-use Rattle.base.proofs.Swept.{swept, swept_none, swept-turn, swept_all}
+use mathlib.Core.Path.{◌∙◌}
+use Rattle.base.proofs.Swept.{swept_none, swept-turn, swept_all}
 use Rattle.rules.specs.Grid.{cell_at, entry_of, flat}
 use Rattle.rules.specs.Fit.{pattern}
 use Rattle.rules.specs.declared.Cell.{Cell}

@@ -2,6 +2,7 @@
 -- Assumes nothing.
 use Prim.Native.Nat.{ℕ}
 use mathlib.Core.Path.{◌≡◌, ◌∙◌}
+use native.Mathlib.Omega.{arith}
 use lib.IntN.{◌+ℤ◌}
 use Rattle.base.specs.Whole.{clip}
 use Rattle.rules.specs.Places.{cell_of}
@@ -15,8 +16,7 @@ both p q = rw (p, q)
 pub returns : goal.returns
 unfolding cell_of
 returns c =
-    let d = c.before.before.before in
-    let a = d.before.before.before.args in
+    let a = c.args in
     both
-    (d.index_along.ensures ∙ same-two (λ x y. clip (x +ℤ y)) a.place.0 a.offset.0 d.before.before.struct_told-1.given.0.1 d.before.struct_told-2-1.given.0.1)
-    (c.index_along-2.ensures ∙ same-two (λ x y. clip (x +ℤ y)) a.place.1 a.offset.1 c.before.before.struct_told-3-1.given.1.0.1 c.before.struct_told-4-1.given.1.0.1)
+    (c.index_along.ensures ∙ same-two (λ x y. clip (x +ℤ y)) a.place.0 a.offset.0 (omega arith) (omega arith))
+    (c.index_along-2.ensures ∙ same-two (λ x y. clip (x +ℤ y)) a.place.1 a.offset.1 (omega arith) (omega arith))

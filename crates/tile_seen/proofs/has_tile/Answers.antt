@@ -3,8 +3,7 @@ use mathlib.Core.Path.{sym, ◌∙◌}
 use native.Mathlib.Omega.{arith}
 use Rattle.base.proofs.Counted.{some-stop}
 use Rattle.rules.specs.Tiles.{has_tile}
-use Rattle.tile_seen.proofs.Buckets.{Searching, search-start, search-on, search-less, search-none}
-use borrow.Author.Rules.{rules}
+use Rattle.tile_seen.proofs.Buckets.{search-start, search-on, search-less, search-none}
 use Rattle.tile_seen.proofs.has_tile.Goals as goal
 
 pub loop-last-init : goal.loop-last-init

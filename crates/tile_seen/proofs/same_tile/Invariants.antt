@@ -1,15 +1,10 @@
 -- `tile_seen::same_tile` meets its contract: a search that leaves at the first difference. Assumes nothing.
 use Prim.Native.Nat.{◌+◌, ◌-◌, ◌*◌, ◌≤◌}
-use mathlib.Core.Path.{◌≡◌, sym}
+use mathlib.Core.Path.{◌≡◌}
 use mathlib.Core.Bool.{true}
-use native.Mathlib.Omega.{arith}
-use borrow.Author.Tests.{eq-eqb, ne_eqb}
 use lib.Dec.{eqb}
 use lib.ListN.{get_or}
 use Rattle.base.specs.Counting.{every}
-use Rattle.base.proofs.Counted.{every-none, every-stop, every-next, every-done}
-use Rattle.rules.specs.Tiles.{same_tile}
-use borrow.Author.Rules.{rules}
 use Rattle.tile_seen.proofs.same_tile.Given as goal
 
 abbrev pub invariant-loop-k : goal.invariant-loop-k

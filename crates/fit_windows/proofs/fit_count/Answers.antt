@@ -1,0 +1,36 @@
+-- `fit_windows::fit_count` meets its contract. The loop's invariant: the count is that of the tiles passed. Assumes nothing.
+use Prim.Native.Nat.{ℕ, ◌+◌}
+use mathlib.Core.Path.{◌≡◌, sym, ◌∙◌}
+use native.Mathlib.Omega.{arith}
+use mathlib.Core.Bool.{Bool}
+use Rattle.base.specs.Counting.{tally}
+use Rattle.base.proofs.Counted.{tally-le}
+use Rattle.rules.specs.Fit.{fits_tile, fit_count}
+use Rattle.fit_pattern.specs.Patch.{shown_in}
+use Rattle.base.proofs.Counted.{tally-turn, tally-done}
+use Rattle.rules.proofs.Fitting.{bare-fits}
+use borrow.Author.Rules.{rules}
+use Rattle.fit_windows.proofs.fit_count.Goals as goal
+
+pub returns-then-is_bare : goal.returns-then-is_bare
+returns-then-is_bare c = bare-fits _ _ (sym c.is_bare.ensures ∙ c.if-is_bare.true)
+
+pub loop-n-init : goal.loop-n-init
+unfolding tally
+loop-n-init c = search rules
+
+pub overflow_add-count : goal.overflow_add-count
+overflow_add-count c = let a = c.args in
+    let l = c.loop-n in
+    let f : ℕ → Bool = fits_tile a.tiles.now (shown_in a.region.now 3 0) in
+    let t : l.count + c.one_if-count.result ≡ tally (l.n + 1) f = tally-turn f l.invariant.1 c.tile_fits.ensures c.one_if-count.ensures in
+    record { fits = omega (arith, tally-le f (l.n + 1)) }
+
+pub loop-n-preserved : goal.loop-n-preserved
+loop-n-preserved c = let a = c.args in
+    let l = c.loop-n in
+    (search rules, tally-turn (fits_tile a.tiles.now (shown_in a.region.now 3 0)) l.invariant.1 c.tile_fits.ensures c.one_if-count.ensures)
+
+pub returns : goal.returns
+unfolding fit_count
+returns c = tally-done _ c.loop-n.invariant.0 c.loop-n-test.false c.loop-n.invariant.1

@@ -1,0 +1,10 @@
+-- `queue_cases::fill` is safe and ends: eight rows.
+-- Assumes nothing.
+use Prim.Native.Nat.{◌≤◌, ◌-◌}
+use Rattle.queue_cases.proofs.fill.Given as goal
+
+abbrev pub invariant-loop-k : goal.invariant-loop-k
+invariant-loop-k g l = l.k ≤ 8
+
+abbrev pub decreases-loop-k : goal.decreases-loop-k
+decreases-loop-k g l = 8 - l.k
