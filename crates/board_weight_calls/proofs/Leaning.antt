@@ -1,5 +1,5 @@
 -- What the calls on a weights plane lean on once their checks have passed. Assumes nothing.
-use Prim.Native.Nat.{ℕ, ◌*◌}
+use Prim.Native.Nat.{ℕ}
 use mathlib.Core.Path.{◌≡◌, refl, sym}
 use mathlib.Core.Bool.{true}
 use mathlib.Core.List.{List}
@@ -7,7 +7,7 @@ use native.Mathlib.Omega.{arith}
 use Rattle.base.specs.Refusal.{refusal}
 use Rattle.base.proofs.Chain.{all_pass}
 use Rattle.rules.specs.Bounds.{max_weight}
-use Rattle.rules.specs.Tests.{board_sides, has_length, none_above}
+use Rattle.rules.specs.Tests.{none_above}
 use Rattle.rules.specs.Places.{cell_of}
 use Rattle.rules.specs.Board.{weight_checks}
 use Rattle.rules.specs.declared.World.{World}

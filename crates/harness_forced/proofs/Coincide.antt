@@ -4,7 +4,7 @@ use Prim.Native.Nat.{ℕ}
 use mathlib.Core.Path.{◌≡◌}
 use mathlib.Core.List.{List}
 use lib.IntN.{ℤ}
-use denote.Ref.{Bor}
+use denote.MutBor.{MutBor}
 use Rattle.base.proofs.Chain.{gives-coincide}
 use Rattle.rules.specs.Forced.{queue_empty, queue_length}
 use Rattle.boundary.specs.Boundary.{TellsVerdict, TellsCount}
@@ -25,7 +25,7 @@ port-queue-len-coincide coordinates colours len out = gives-decides _ _
 
 -- the slices before the call, and as each of the two calls leaves them; a place, an offset, bounds and an added list of any value stand where
 -- the contracts have those of their arguments
-module _ (coordinates coordinates₁ coordinates₂ : Bor (List ℤ)) (colours colours₁ colours₂ len len₁ len₂ : Bor (List ℕ)) {r s : ℕ} where
+module _ (coordinates coordinates₁ coordinates₂ : MutBor (List ℤ)) (colours colours₁ colours₂ len len₁ len₂ : MutBor (List ℕ)) {r s : ℕ} where
   pub port-forced-coincide : (pieces : List ℕ) (rows cols : ℕ) (tiles : List ℕ) (count : ℕ) (place : World) (offset : Offset) (bounds : GenerationBounds)
       → PortForces pieces rows cols tiles count place offset bounds (lent coordinates coordinates₁) (lent colours colours₁) (lent len len₁) r
       → PortForces pieces rows cols tiles count place offset bounds (lent coordinates coordinates₂) (lent colours colours₂) (lent len len₂) s
@@ -37,7 +37,7 @@ module _ (coordinates coordinates₁ coordinates₂ : Bor (List ℤ)) (colours c
       → (r ≡ s) × (slices coordinates₁.now colours₁.now len₁.now ≡ slices coordinates₂.now colours₂.now len₂.now)
   port-queue-add-coincide added = gives-coincide
 
-  pub port-queue-take-coincide : (taken taken₁ taken₂ : Bor (List ℤ)) (colour colour₁ colour₂ found found₁ found₂ : Bor (List ℕ))
+  pub port-queue-take-coincide : (taken taken₁ taken₂ : MutBor (List ℤ)) (colour colour₁ colour₂ found found₁ found₂ : MutBor (List ℕ))
       → PortTakes (lent coordinates coordinates₁) (lent colours colours₁) (lent len len₁) (lent taken taken₁) (lent colour colour₁) (lent found found₁) r
       → PortTakes (lent coordinates coordinates₂) (lent colours colours₂) (lent len len₂) (lent taken taken₂) (lent colour colour₂) (lent found found₂) s
       → (r ≡ s) × (taking (slices coordinates₁.now colours₁.now len₁.now) taken₁.now colour₁.now found₁.now

@@ -1,5 +1,5 @@
 // The queue's calls in their lent form, each on a queue that the function holds itself. What the pieces of an answer make is a call of its
-// own, so that the two functions behind are no more than copies, the lending and calls: their proofs walk them by hand.
+// own, so that the two functions behind are no more than copies, the lending and calls.
 ghost use Rattle.std.specs.Prelude.{◌≡◌};
 ghost use Rattle.rules.specs.Forced.{grown_by, taken_from};
 

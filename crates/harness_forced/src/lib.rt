@@ -15,8 +15,7 @@ use boundary_slots::{bounds_from, offset_at, world_at};
 mod lent;
 mod slices;
 
-#[unsafe(no_mangle)]
-pub extern "C" fn port_forced(
+pub fn port_forced(
     pieces: &[u32],
     rows: usize,
     cols: usize,
@@ -50,8 +49,7 @@ pub extern "C" fn port_forced(
     slices::forced_given(answer.refused, found, coordinates, colours, len)
 }
 
-#[unsafe(no_mangle)]
-pub extern "C" fn port_queue_add(
+pub fn port_queue_add(
     coordinates: &mut [i32],
     colours: &mut [u32],
     len: &mut [u64],
@@ -70,8 +68,7 @@ pub extern "C" fn port_queue_add(
     slices::added_given(answer, after, coordinates, colours, len)
 }
 
-#[unsafe(no_mangle)]
-pub extern "C" fn port_queue_take(
+pub fn port_queue_take(
     coordinates: &mut [i32],
     colours: &mut [u32],
     len: &mut [u64],
@@ -89,13 +86,7 @@ pub extern "C" fn port_queue_take(
     slices::taken_given(next, left, coordinates, colours, len, taken, colour, found)
 }
 
-#[unsafe(no_mangle)]
-pub extern "C" fn port_queue_is_empty(
-    coordinates: &[i32],
-    colours: &[u32],
-    len: usize,
-    out: &mut [u32],
-) -> u32
+pub fn port_queue_is_empty(coordinates: &[i32], colours: &[u32], len: usize, out: &mut [u32]) -> u32
     ensures { TellsVerdict (queue_empty (queue_from coordinates.now colours.now len)) (before out) result (after out) }
 {
     let queue = slices::queue_from(coordinates, colours, len);
@@ -103,13 +94,7 @@ pub extern "C" fn port_queue_is_empty(
     judged(answer, out)
 }
 
-#[unsafe(no_mangle)]
-pub extern "C" fn port_queue_len(
-    coordinates: &[i32],
-    colours: &[u32],
-    len: usize,
-    out: &mut [u64],
-) -> u32
+pub fn port_queue_len(coordinates: &[i32], colours: &[u32], len: usize, out: &mut [u64]) -> u32
     ensures { TellsCount (queue_length (queue_from coordinates.now colours.now len)) (before out) result (after out) }
 {
     let queue = slices::queue_from(coordinates, colours, len);

@@ -6,7 +6,7 @@ use mathlib.Core.Bool.{Bool}
 use mathlib.Core.List.{List}
 use lib.IntN.{ℤ}
 use lib.Ieee.{Float}
-use denote.Ref.{Bor}
+use denote.MutBor.{MutBor}
 use Rattle.base.proofs.Chain.{coincide, gives-coincide}
 use Rattle.rules.specs.Places.{box_contains, extension_of, boxed_extension}
 use Rattle.rules.specs.Sets.{members_listed}
@@ -42,7 +42,7 @@ port-membership-coincide tile count out = gives-decides _ _
 -- two results that tell this extension coincide: the slices before the call, and as each of the two calls leaves them
 abbrev Extends : ExtensionAnswer → Type 0
 Extends answer =
-    (pads pads₁ pads₂ : Bor (List ℕ)) (offset offset₁ offset₂ : Bor (List ℤ)) (needed needed₁ needed₂ : Bor (List ℕ)) (r s : ℕ)
+    (pads pads₁ pads₂ : MutBor (List ℕ)) (offset offset₁ offset₂ : MutBor (List ℤ)) (needed needed₁ needed₂ : MutBor (List ℕ)) (r s : ℕ)
     → TellsExtension answer (lent pads pads₁) (lent offset offset₁) (lent needed needed₁) r
     → TellsExtension answer (lent pads pads₂) (lent offset offset₂) (lent needed needed₂) s
     → (r ≡ s) × (extended pads₁.now offset₁.now needed₁.now ≡ extended pads₂.now offset₂.now needed₂.now)
@@ -60,13 +60,13 @@ pub port-constrain-extension-coincide : (rows cols : ℕ) (down across row col :
 port-constrain-extension-coincide rows cols down across row col radius minrow mincol maxrow maxcol =
     extends (boxed_extension rows cols (offset_by down across) (world row col) radius (box_of minrow mincol maxrow maxcol))
 
-pub port-set-to-vec-coincide : (bits size : ℕ) (colours colours₁ colours₂ len len₁ len₂ : Bor (List ℕ)) {r s : ℕ}
+pub port-set-to-vec-coincide : (bits size : ℕ) (colours colours₁ colours₂ len len₁ len₂ : MutBor (List ℕ)) {r s : ℕ}
     → TellsMembers (members_listed (set_from bits size)) (lent colours colours₁) (lent len len₁) r
     → TellsMembers (members_listed (set_from bits size)) (lent colours colours₂) (lent len len₂) s
     → (r ≡ s) × (bytes_with colours₁.now len₁.now ≡ bytes_with colours₂.now len₂.now)
 port-set-to-vec-coincide bits size colours colours₁ colours₂ len len₁ len₂ = gives-coincide
 
-pub port-extract-tiles-coincide : (sample : List ℕ) (rows cols count : ℕ) (rotations reflections : Bool) (store store₁ store₂ out out₁ out₂ : Bor (List ℕ)) {r s : ℕ}
+pub port-extract-tiles-coincide : (sample : List ℕ) (rows cols count : ℕ) (rotations reflections : Bool) (store store₁ store₂ out out₁ out₂ : MutBor (List ℕ)) {r s : ℕ}
     → PortExtracts sample rows cols count rotations reflections (lent store store₁) (lent out out₁) r
     → PortExtracts sample rows cols count rotations reflections (lent store store₂) (lent out out₂) s
     → (r ≡ s) × (bytes_with store₁.now out₁.now ≡ bytes_with store₂.now out₂.now)

@@ -18,8 +18,7 @@ use rules::{Pads, TileBitset};
 
 mod lent;
 
-#[unsafe(no_mangle)]
-pub extern "C" fn port_contains(
+pub fn port_contains(
     minrow: i32,
     mincol: i32,
     maxrow: i32,
@@ -36,8 +35,7 @@ pub extern "C" fn port_contains(
     judged(answer, out)
 }
 
-#[unsafe(no_mangle)]
-pub extern "C" fn port_calculate_extension(
+pub fn port_calculate_extension(
     rows: usize,
     cols: usize,
     down: i32,
@@ -57,8 +55,7 @@ pub extern "C" fn port_calculate_extension(
     lent::extension_given(answer, pads, offset, needed)
 }
 
-#[unsafe(no_mangle)]
-pub extern "C" fn port_constrain_extension(
+pub fn port_constrain_extension(
     rows: usize,
     cols: usize,
     down: i32,
@@ -84,8 +81,7 @@ pub extern "C" fn port_constrain_extension(
     lent::extension_given(answer, pads, offset, needed)
 }
 
-#[unsafe(no_mangle)]
-pub extern "C" fn port_extend_u32(
+pub fn port_extend_u32(
     plane: &[u32],
     rows: usize,
     cols: usize,
@@ -107,8 +103,7 @@ pub extern "C" fn port_extend_u32(
     written(answer)
 }
 
-#[unsafe(no_mangle)]
-pub extern "C" fn port_extend_f64(
+pub fn port_extend_f64(
     plane: &[f64],
     rows: usize,
     cols: usize,
@@ -130,16 +125,14 @@ pub extern "C" fn port_extend_f64(
     written(answer)
 }
 
-#[unsafe(no_mangle)]
-pub extern "C" fn port_set_to_vec(bits: u32, size: u32, colours: &mut [u8], len: &mut [u64]) -> u32
+pub fn port_set_to_vec(bits: u32, size: u32, colours: &mut [u8], len: &mut [u64]) -> u32
     ensures { TellsMembers (members_listed (set_from bits size)) colours len result }
 {
     let list = bitset::to_vec(TileBitset { bits, size });
     lent::colours_given(list, colours, len)
 }
 
-#[unsafe(no_mangle)]
-pub extern "C" fn port_extract_tiles(
+pub fn port_extract_tiles(
     sample: &[u8],
     rows: usize,
     cols: usize,
@@ -155,24 +148,21 @@ pub extern "C" fn port_extract_tiles(
     extracted(answer, out)
 }
 
-#[unsafe(no_mangle)]
-pub extern "C" fn port_rotate_90(tile: &[u8], out: &mut [u8])
+pub fn port_rotate_90(tile: &[u8], out: &mut [u8])
     ensures { after out ≡ put_from 0 (rotated (nine_of tile.now)) (before out) }
 {
     let turned = tile_forms::rotate_90(lent::tile_of(tile));
     lent::put_bytes(out, &turned);
 }
 
-#[unsafe(no_mangle)]
-pub extern "C" fn port_reflect(tile: &[u8], out: &mut [u8])
+pub fn port_reflect(tile: &[u8], out: &mut [u8])
     ensures { after out ≡ put_from 0 (reflected (nine_of tile.now)) (before out) }
 {
     let mirrored = tile_forms::reflect(lent::tile_of(tile));
     lent::put_bytes(out, &mirrored);
 }
 
-#[unsafe(no_mangle)]
-pub extern "C" fn port_membership(tile: &[u8], count: u32, out: &mut [u32]) -> u32
+pub fn port_membership(tile: &[u8], count: u32, out: &mut [u32]) -> u32
     ensures { TellsSet (membership (nine_of tile.now) count) (before out) result (after out) }
 {
     let answer = tiles::convert_tile_to_membership_booleans(lent::tile_of(tile), count);

@@ -1,0 +1,9 @@
+-- `harness_forced::slices::entry_at` meets its contract: the entry of the three elements that were read. Assumes nothing.
+use Rattle.harness_forced.proofs.Crossing.{entry-is}
+use Rattle.harness_forced.proofs.slices.entry_at.Goals as goal
+
+pub returns : goal.returns
+returns c =
+    let row = c.signed_at-row in
+    let col = c.signed_at-col in
+    entry-is _ _ _ row.result col.result row.type_inv col.type_inv row.ensures col.ensures c.word_at-colour.ensures
