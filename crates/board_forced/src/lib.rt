@@ -6,7 +6,7 @@ ghost use Rattle.base.specs.Refusal.{refusal};
 ghost use Rattle.rules.specs.Board.{board_checks};
 ghost use Rattle.rules.specs.ForcedRun.{run_checks};
 ghost use Rattle.rules.specs.declared.Offset.{Offset};
-ghost use Rattle.rules.specs.Promises.{before, board_before, board_after, panel, RunsOut};
+ghost use Rattle.rules.specs.Promises.{board_before, board_after, panel, RunsOut};
 
 use board_planes::{contents_refused, lengths_refused};
 use board_run::run_out;

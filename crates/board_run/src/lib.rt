@@ -8,7 +8,7 @@ ghost use Rattle.rules.specs.Tests.{on_wall, on_board};
 ghost use Rattle.rules.specs.Grid.{flat};
 ghost use Rattle.rules.specs.Board.{Board, entry_in, laid};
 ghost use Rattle.rules.specs.ForcedRun.{Run, still_forced, queueing, stepped, begun};
-ghost use Rattle.rules.specs.Promises.{before, board, board_before, board_after, panel};
+ghost use Rattle.rules.specs.Promises.{board, board_before, board_after, panel};
 ghost use Rattle.fit_windows.specs.Ready.{Ready};
 ghost use Rattle.fit_forced.specs.Round.{Roundable};
 ghost use Rattle.queue_ring.specs.Ring.{Slots, slots, slots_before, slots_after, Shaped, Ring};
