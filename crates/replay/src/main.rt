@@ -3,10 +3,10 @@
 // answer and all that it may write are compared with the record.
 #![tactic(auto)]
 
-mod board;
+mod board_steps;
 mod laying;
 mod list;
-mod tiles;
+mod tile_steps;
 
 use std::fs::File;
 use std::io;
@@ -17,13 +17,13 @@ const LONGEST_FILE: usize = 24576;
 
 fn answers(step: usize, values: &[u64], marks: &[u64]) -> bool {
     match step {
-        0 => tiles::extract(values, marks),
-        1 => board::region_count(values, marks),
-        2 => board::scan(values, marks),
-        3 => board::raise(values, marks),
-        4 => board::lower(values, marks),
-        5 => board::recount(values, marks),
-        6 => board::fresh(values, marks),
+        0 => tile_steps::extract(values, marks),
+        1 => board_steps::region_count(values, marks),
+        2 => board_steps::scan(values, marks),
+        3 => board_steps::raise(values, marks),
+        4 => board_steps::lower(values, marks),
+        5 => board_steps::recount(values, marks),
+        6 => board_steps::fresh(values, marks),
         7 => laying::fitting_colours(values, marks),
         8 => laying::lay(values, marks),
         _ => laying::lift(values, marks),
