@@ -12,9 +12,9 @@ use Rattle.base.specs.Refusal.{refusal}
 use Rattle.base.proofs.Numbers.{within-high}
 use Rattle.base.proofs.Chain.{Passes, all_pass}
 use Rattle.rules.specs.Bounds.{max_colours, max_weight}
-use Rattle.rules.specs.Tests.{board_sides, colour_count, none_above, on_board}
+use Rattle.rules.specs.Tests.{colour_count, none_above, on_board}
 use Rattle.rules.specs.Places.{cell_of}
-use Rattle.rules.specs.Fit.{pieces_checks, place_checks}
+use Rattle.rules.specs.Fit.{pieces_checks}
 use Rattle.rules.specs.Board.{board_checks, laying_checks}
 use Rattle.rules.specs.Promises.{board, panel}
 use Rattle.rules.specs.declared.World.{World}

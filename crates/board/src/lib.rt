@@ -2,7 +2,7 @@
 // coordinates; the offset leads to the cell.
 #![tactic(auto)]
 
-ghost use Rattle.rules.specs.Promises.{before, board_before, board_after, panel, Lays, Lifts};
+ghost use Rattle.rules.specs.Promises.{board_before, board_after, panel, Lays, Lifts};
 
 use board_moves::{lay_at, lift_at};
 use board_near::near_spans;

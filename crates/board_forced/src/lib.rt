@@ -6,7 +6,7 @@ ghost use Rattle.base.specs.Refusal.{refusal};
 ghost use Rattle.rules.specs.Board.{board_checks};
 ghost use Rattle.rules.specs.ForcedRun.{run_checks};
 ghost use Rattle.rules.specs.declared.Offset.{Offset};
-ghost use Rattle.rules.specs.Promises.{before, board_before, board_after, panel, RunsOut};
+ghost use Rattle.rules.specs.Promises.{board, board_before, board_after, panel, RunsOut};
 
 use board_planes::{contents_refused, lengths_refused};
 use board_run::run_out;
@@ -25,7 +25,7 @@ fn board_refused(
     tiles: &[u8],
     count: u32,
 ) -> u8
-    ensures { (offset : Offset) → result ≡ refusal (board_checks (panel rows cols tiles.now offset) count (board_before pieces weights counts)) }
+    ensures { (offset : Offset) → result ≡ refusal (board_checks (panel rows cols tiles.now offset) count (board pieces.now weights.now counts.now)) }
 {
     let no = lengths_refused(pieces, weights, counts, rows, cols);
     if no != 0 {
@@ -51,7 +51,7 @@ fn run_refused(
     bounds: GenerationBounds,
     budget: usize,
 ) -> u8
-    ensures { result ≡ refusal (run_checks (panel rows cols tiles.now offset) count (board_before pieces weights counts) place bounds budget) }
+    ensures { result ≡ refusal (run_checks (panel rows cols tiles.now offset) count (board pieces.now weights.now counts.now) place bounds budget) }
 {
     if budget > rules::MAX_BUDGET {
         return rules::SHAPE;

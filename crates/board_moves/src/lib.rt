@@ -5,7 +5,7 @@ ghost use Rattle.std.specs.Prelude.{◌≡◌, ◌≤◌};
 ghost use Rattle.rules.specs.Bounds.{max_colours};
 ghost use Rattle.rules.specs.Grid.{entry_of, flat};
 ghost use Rattle.rules.specs.Board.{laid, lifted};
-ghost use Rattle.rules.specs.Promises.{before, board, board_before, board_after};
+ghost use Rattle.rules.specs.Promises.{board, board_before, board_after};
 ghost use Rattle.board_moves.specs.Movable.{Movable};
 
 use board_recount::recount_near;

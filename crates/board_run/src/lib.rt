@@ -8,7 +8,7 @@ ghost use Rattle.rules.specs.Tests.{on_wall, on_board};
 ghost use Rattle.rules.specs.Grid.{flat};
 ghost use Rattle.rules.specs.Board.{Board, entry_in, laid};
 ghost use Rattle.rules.specs.ForcedRun.{Run, still_forced, queueing, stepped, begun};
-ghost use Rattle.rules.specs.Promises.{before, board, board_before, board_after, panel};
+ghost use Rattle.rules.specs.Promises.{board, board_before, board_after, panel};
 ghost use Rattle.fit_windows.specs.Ready.{Ready};
 ghost use Rattle.fit_forced.specs.Round.{Roundable};
 ghost use Rattle.queue_ring.specs.Ring.{Slots, slots, slots_before, slots_after, Shaped, Ring};
@@ -22,7 +22,7 @@ use queue_ring::{add_positions, entry_in, slot_of};
 use rules::{CountAnswer, ForcedPosition, GenerationBounds, Offset, RunAnswer, SpanAnswer, World};
 
 // Where the queue stands in its slots, how many entries were taken and laid, and whether an adding met ROOM.
-#[derive(Drop)]
+#[derive(Clone, Copy)]
 pub struct Progress {
     pub first: usize,
     pub len: usize,

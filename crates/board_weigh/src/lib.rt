@@ -6,7 +6,6 @@ ghost use Rattle.std.specs.Prelude.{◌≡◌, ◌<◌, ◌≤◌, get_or};
 ghost use Rattle.rules.specs.Bounds.{max_board_side};
 ghost use Rattle.rules.specs.Grid.{entry_of, flat};
 ghost use Rattle.rules.specs.Board.{weights_of};
-ghost use Rattle.rules.specs.Promises.{before};
 ghost use Rattle.board_near.specs.Near.{OnPlane};
 ghost use Rattle.board_weigh.specs.Added.{near_span, added_by, row_adds, box_adds, InRow, InBoard};
 

@@ -10,7 +10,7 @@ ghost use Rattle.rules.specs.Grid.{flat};
 ghost use Rattle.rules.specs.Places.{new_rows, new_cols};
 ghost use Rattle.rules.specs.Board.{counts_of};
 ghost use Rattle.rules.specs.Widening.{widened_pieces};
-ghost use Rattle.rules.specs.Promises.{before, after, board, board_before, board_after, panel, Widens};
+ghost use Rattle.rules.specs.Promises.{after, board, board_before, board_after, panel, Widens};
 ghost use Rattle.fit_windows.specs.Ready.{Countable};
 ghost use Rattle.copy_checks.specs.Laid.{Sized};
 ghost use Rattle.board_widen.specs.Wide.{Weighable, weight_after};

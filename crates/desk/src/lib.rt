@@ -3,7 +3,7 @@
 // the wall, the offset likewise, a span as its two ends; each answer is 0 or document 01's refusal number.
 #![tactic(auto)]
 
-ghost use Rattle.rules.specs.Promises.{before, after, board_before, board_after};
+ghost use Rattle.rules.specs.Promises.{before, after, board, board_before, board_after};
 ghost use Rattle.boundary_slots.specs.Slots.{world, bounds_from, pads_by};
 ghost use Rattle.desk.specs.Desk.{TellsColours, DeskLists, DeskLays, DeskLifts, DeskRuns, ran_with, DeskWidens, larger, DeskScores, DeskScoresNear};
 
@@ -25,8 +25,7 @@ fn found_colours(answer: Listing, found: &mut [u64]) -> u32
     }
 }
 
-#[unsafe(no_mangle)]
-pub extern "C" fn desk_fitting_colours(
+pub fn desk_fitting_colours(
     pieces: &[u32],
     rows: usize,
     cols: usize,
@@ -48,8 +47,7 @@ pub extern "C" fn desk_fitting_colours(
     found_colours(answer, found)
 }
 
-#[unsafe(no_mangle)]
-pub extern "C" fn desk_lay(
+pub fn desk_lay(
     pieces: &mut [u32],
     weights: &mut [u32],
     counts: &mut [u32],
@@ -74,8 +72,7 @@ pub extern "C" fn desk_lay(
     laid(answer)
 }
 
-#[unsafe(no_mangle)]
-pub extern "C" fn desk_lift(
+pub fn desk_lift(
     pieces: &mut [u32],
     weights: &mut [u32],
     counts: &mut [u32],
@@ -101,8 +98,7 @@ pub extern "C" fn desk_lift(
 
 // How the run ended goes into the first entry of `ran`, 0 done, 1 spent, 2 full; then how many entries were taken, and how many laid. The
 // corners are read only within a box.
-#[unsafe(no_mangle)]
-pub extern "C" fn desk_forced_run(
+pub fn desk_forced_run(
     pieces: &mut [u32],
     weights: &mut [u32],
     counts: &mut [u32],
@@ -137,8 +133,7 @@ pub extern "C" fn desk_forced_run(
 }
 
 // The board goes into three larger planes, and the new offset into the first two entries of `offset`: rows, then columns.
-#[unsafe(no_mangle)]
-pub extern "C" fn desk_widen(
+pub fn desk_widen(
     widepieces: &mut [u32],
     wideweights: &mut [u32],
     widecounts: &mut [u32],
@@ -157,7 +152,7 @@ pub extern "C" fn desk_widen(
     across: i32,
     offset: &mut [i32],
 ) -> u32
-    ensures { DeskWidens rows cols (pads_by left right top bottom) tiles.now count down across (board_before pieces weights counts)
+    ensures { DeskWidens rows cols (pads_by left right top bottom) tiles.now count down across (board pieces.now weights.now counts.now)
         (board_before widepieces wideweights widecounts) (before offset) result (larger (board_after widepieces wideweights widecounts) (after offset)) }
 {
     let pads = Pads {
@@ -185,8 +180,7 @@ pub extern "C" fn desk_widen(
 }
 
 // The number of tiles is a number here, as in all scores: the list itself is not looked at.
-#[unsafe(no_mangle)]
-pub extern "C" fn desk_plain_score(
+pub fn desk_plain_score(
     scores: &mut [f64],
     counts: &[u32],
     rows: usize,
@@ -199,8 +193,7 @@ pub extern "C" fn desk_plain_score(
     written(answer)
 }
 
-#[unsafe(no_mangle)]
-pub extern "C" fn desk_plain_score_near(
+pub fn desk_plain_score_near(
     scores: &mut [f64],
     counts: &[u32],
     rows: usize,

@@ -8,7 +8,6 @@ ghost use Rattle.rules.specs.Bounds.{max_tiles};
 ghost use Rattle.rules.specs.Grid.{on_grid, flat};
 ghost use Rattle.rules.specs.Fit.{pieces_checks, listing, region_count};
 ghost use Rattle.rules.specs.Scores.{fraction, fraction_checks, fraction_at};
-ghost use Rattle.rules.specs.Promises.{before};
 
 use rules::{Cell, CountAnswer, FractionAnswer, Listing, Offset, World};
 

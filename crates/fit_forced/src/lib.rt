@@ -9,7 +9,6 @@ ghost use Rattle.rules.specs.Bounds.{added_room, min_coordinate, max_coordinate}
 ghost use Rattle.rules.specs.Tests.{on_wall};
 ghost use Rattle.rules.specs.Grid.{entry_of, flat};
 ghost use Rattle.rules.specs.Forced.{neighbour, admits, bounds_fit, forced_round, positions_of, forced_checks, forced_neighbours};
-ghost use Rattle.rules.specs.Promises.{before};
 ghost use Rattle.rules.specs.declared.ForcedPosition.{ForcedPosition};
 ghost use Rattle.fit_pattern.specs.Ready.{CellOn};
 ghost use Rattle.fit_windows.specs.Ready.{Ready};

@@ -8,7 +8,6 @@ ghost use Rattle.base.specs.Counting.{every};
 ghost use Rattle.base.specs.Tables.{tab};
 ghost use Rattle.rules.specs.Grid.{flat, cell_at, entry_of, entry_or_past, colour_on};
 ghost use Rattle.rules.specs.Fit.{pattern, fits_tile};
-ghost use Rattle.rules.specs.Promises.{before};
 ghost use Rattle.fit_pattern.specs.Ready.{Readable, CellOn, Painted};
 ghost use Rattle.fit_pattern.specs.Patch.{entry_back, patch_round, window_in, shown_in};
 ghost use Rattle.fit_pattern.specs.Packed.{cells_from, packed, mask_of};

@@ -5,7 +5,6 @@ ghost use Rattle.std.specs.Prelude.{◌≡◌};
 ghost use Rattle.base.specs.Refusal.{refusal};
 ghost use Rattle.rules.specs.Grid.{entry_of, flat};
 ghost use Rattle.rules.specs.Forced.{dead_at, scan_lengths, scan_checks, dead_end};
-ghost use Rattle.rules.specs.Promises.{before};
 ghost use Rattle.fit_pattern.specs.Ready.{CellOn};
 ghost use Rattle.fit_scan.specs.Scanned.{Scannable, scanned, cell_checks};
 

@@ -8,7 +8,6 @@ ghost use Rattle.rules.specs.Bounds.{max_colours, max_tiles};
 ghost use Rattle.rules.specs.Tests.{tiles_in};
 ghost use Rattle.rules.specs.Sets.{bits_of};
 ghost use Rattle.rules.specs.Fit.{pattern, fit_count, serves, has_fitting, window_order, lists, found_at};
-ghost use Rattle.rules.specs.Promises.{before};
 ghost use Rattle.rules.specs.declared.Listing.TheVariants.{Colours};
 ghost use Rattle.fit_pattern.specs.Patch.{shown_in, window_of};
 ghost use Rattle.fit_pattern.specs.Ready.{CellOn, Painted};

@@ -19,8 +19,7 @@ use boundary_longs::{counted, divided, scanned, spanned};
 use boundary_slots::{offset_at, world_at};
 use rules::{Cell, TileBitset};
 
-#[unsafe(no_mangle)]
-pub extern "C" fn port_listing(
+pub fn port_listing(
     pieces: &[u32],
     rows: usize,
     cols: usize,
@@ -42,8 +41,7 @@ pub extern "C" fn port_listing(
     listed(answer, out)
 }
 
-#[unsafe(no_mangle)]
-pub extern "C" fn port_scan(
+pub fn port_scan(
     pieces: &[u32],
     weights: &[u32],
     rows: usize,
@@ -58,8 +56,7 @@ pub extern "C" fn port_scan(
     scanned(answer, out)
 }
 
-#[unsafe(no_mangle)]
-pub extern "C" fn port_fresh(
+pub fn port_fresh(
     pieces: &mut [u32],
     weights: &mut [u32],
     counts: &mut [u32],
@@ -73,8 +70,7 @@ pub extern "C" fn port_fresh(
     written(answer)
 }
 
-#[unsafe(no_mangle)]
-pub extern "C" fn port_get_region_spans(
+pub fn port_get_region_spans(
     down: i32,
     across: i32,
     row: i32,
@@ -90,46 +86,35 @@ pub extern "C" fn port_get_region_spans(
     spanned(answer, out)
 }
 
-#[unsafe(no_mangle)]
-pub extern "C" fn port_set_new(size: u32, out: &mut [u32]) -> u32
+pub fn port_set_new(size: u32, out: &mut [u32]) -> u32
     ensures { TellsSet (empty_set size) (before out) result (after out) }
 {
     let answer = bitset::new(size);
     set_given(answer, out)
 }
 
-#[unsafe(no_mangle)]
-pub extern "C" fn port_set_all(size: u32, out: &mut [u32]) -> u32
+pub fn port_set_all(size: u32, out: &mut [u32]) -> u32
     ensures { TellsSet (full_set size) (before out) result (after out) }
 {
     let answer = bitset::all(size);
     set_given(answer, out)
 }
 
-#[unsafe(no_mangle)]
-pub extern "C" fn port_set_insert(bits: u32, size: u32, colour: u32, out: &mut [u32]) -> u32
+pub fn port_set_insert(bits: u32, size: u32, colour: u32, out: &mut [u32]) -> u32
     ensures { TellsSet (inserted (set_from bits size) colour) (before out) result (after out) }
 {
     let answer = bitset::insert(TileBitset { bits, size }, colour);
     set_given(answer, out)
 }
 
-#[unsafe(no_mangle)]
-pub extern "C" fn port_set_contains(bits: u32, size: u32, colour: u32, out: &mut [u32]) -> u32
+pub fn port_set_contains(bits: u32, size: u32, colour: u32, out: &mut [u32]) -> u32
     ensures { TellsVerdict (contained (set_from bits size) colour) (before out) result (after out) }
 {
     let answer = bitset::contains(TileBitset { bits, size }, colour);
     judged(answer, out)
 }
 
-#[unsafe(no_mangle)]
-pub extern "C" fn port_set_intersection(
-    bits: u32,
-    size: u32,
-    others: u32,
-    most: u32,
-    out: &mut [u32],
-) -> u32
+pub fn port_set_intersection(bits: u32, size: u32, others: u32, most: u32, out: &mut [u32]) -> u32
     ensures { TellsSet (intersected (set_from bits size) (set_from others most)) (before out) result (after out) }
 {
     let answer = bitset::intersection(
@@ -142,24 +127,21 @@ pub extern "C" fn port_set_intersection(
     set_given(answer, out)
 }
 
-#[unsafe(no_mangle)]
-pub extern "C" fn port_set_is_empty(bits: u32, size: u32, out: &mut [u32]) -> u32
+pub fn port_set_is_empty(bits: u32, size: u32, out: &mut [u32]) -> u32
     ensures { TellsVerdict (emptiness (set_from bits size)) (before out) result (after out) }
 {
     let answer = bitset::is_empty(TileBitset { bits, size });
     judged(answer, out)
 }
 
-#[unsafe(no_mangle)]
-pub extern "C" fn port_set_count(bits: u32, size: u32, out: &mut [u64]) -> u32
+pub fn port_set_count(bits: u32, size: u32, out: &mut [u64]) -> u32
     ensures { TellsCount (members_counted (set_from bits size)) (before out) result (after out) }
 {
     let answer = bitset::count(TileBitset { bits, size });
     counted(answer, out)
 }
 
-#[unsafe(no_mangle)]
-pub extern "C" fn port_region_count(
+pub fn port_region_count(
     pieces: &[u32],
     rows: usize,
     cols: usize,
@@ -175,8 +157,7 @@ pub extern "C" fn port_region_count(
     counted(answer, out)
 }
 
-#[unsafe(no_mangle)]
-pub extern "C" fn port_fraction(
+pub fn port_fraction(
     counts: &[u32],
     rows: usize,
     cols: usize,
@@ -191,8 +172,7 @@ pub extern "C" fn port_fraction(
     divided(answer, out)
 }
 
-#[unsafe(no_mangle)]
-pub extern "C" fn port_raise_weights(
+pub fn port_raise_weights(
     weights: &mut [u32],
     rows: usize,
     cols: usize,
@@ -209,8 +189,7 @@ pub extern "C" fn port_raise_weights(
     written(answer)
 }
 
-#[unsafe(no_mangle)]
-pub extern "C" fn port_lower_weights(
+pub fn port_lower_weights(
     weights: &mut [u32],
     rows: usize,
     cols: usize,
@@ -227,8 +206,7 @@ pub extern "C" fn port_lower_weights(
     written(answer)
 }
 
-#[unsafe(no_mangle)]
-pub extern "C" fn port_recount(
+pub fn port_recount(
     counts: &mut [u32],
     pieces: &[u32],
     rows: usize,

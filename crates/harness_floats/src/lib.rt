@@ -12,8 +12,7 @@ use boundary::written;
 use boundary_slots::{offset_at, world_at};
 use rules::Span;
 
-#[unsafe(no_mangle)]
-pub extern "C" fn port_normalise(
+pub fn port_normalise(
     probabilities: &[f64],
     rows: usize,
     cols: usize,
@@ -41,8 +40,7 @@ pub extern "C" fn port_normalise(
     written(answer)
 }
 
-#[unsafe(no_mangle)]
-pub extern "C" fn port_product(
+pub fn port_product(
     probabilities: &mut [f64],
     rows: usize,
     cols: usize,
@@ -76,8 +74,7 @@ pub extern "C" fn port_product(
     written(answer)
 }
 
-#[unsafe(no_mangle)]
-pub extern "C" fn port_quotient(
+pub fn port_quotient(
     probabilities: &mut [f64],
     rows: usize,
     cols: usize,
@@ -111,8 +108,7 @@ pub extern "C" fn port_quotient(
     written(answer)
 }
 
-#[unsafe(no_mangle)]
-pub extern "C" fn port_lay_score(
+pub fn port_lay_score(
     scores: &mut [f64],
     counts: &[u32],
     rows: usize,
@@ -132,8 +128,7 @@ pub extern "C" fn port_lay_score(
     written(answer)
 }
 
-#[unsafe(no_mangle)]
-pub extern "C" fn port_lift_score(
+pub fn port_lift_score(
     scores: &mut [f64],
     counts: &[u32],
     rows: usize,

@@ -1,7 +1,6 @@
 // The numbers of the listing program's input, in their order.
 ghost use Rattle.std.specs.Prelude.{◌≡◌, true, ◌<◌, ◌≤◌, length, get_or, drop};
 ghost use Rattle.base.specs.Counting.{within};
-ghost use Rattle.base.specs.Lent.{before};
 ghost use Rattle.listing_job.specs.Form.{step_end, steps_in, is_whole, sides_up_to, head_fits, sample_cells, tail_fits, is_formed, sides_of, setup_of, form_of};
 
 use crate::{Form, MAX_BOARD, MAX_SAMPLE, Setup, Sides};

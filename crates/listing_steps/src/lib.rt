@@ -2,7 +2,7 @@
 #![tactic(auto)]
 
 ghost use Rattle.std.specs.Prelude.{◌≡◌, ◌<◌, ◌≤◌, length};
-ghost use Rattle.rules.specs.Promises.{before, board_before, board_after};
+ghost use Rattle.rules.specs.Promises.{board_before, board_after};
 ghost use Rattle.listing_numbers.specs.Input.{max_number};
 ghost use Rattle.listing_steps.specs.Steps.{place_at, Takes};
 ghost use Rattle.listing_steps.specs.Walks.{Walks, step_at, steps_from, StepsOn, RunsOn};

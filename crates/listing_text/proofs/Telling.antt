@@ -9,7 +9,7 @@ use lib.Dec.{leb}
 use lib.ListN.{length, get_or, take, drop}
 use lib.Seq.{take_at, length-take-le}
 use borrow.Author.Tests.{leb-true, le-leb, eq-eqb}
-use Rattle.io.specs.Counts.{IsPrefixLen}
+use Rattle.listing_text.specs.Counts.{IsPrefixLen}
 use Rattle.base.specs.Counting.{pick, within}
 use Rattle.base.specs.Refusal.{refusal}
 use Rattle.base.proofs.Bools.{and_left, and_right, and_both, pick_yes, pick_no}

@@ -5,7 +5,6 @@ ghost use Rattle.std.specs.Prelude.{◌≡◌, ◌&&◌};
 ghost use Rattle.base.specs.Counting.{within};
 ghost use Rattle.base.specs.Refusal.{refusal};
 ghost use Rattle.rules.specs.Bounds.{max_influence_side};
-ghost use Rattle.rules.specs.Promises.{before};
 ghost use Rattle.rules.specs.Probabilities.{normalise_checks, influence_sizes, influence_checks};
 ghost use Rattle.probability_influence.specs.Step.{block_of};
 

@@ -6,7 +6,6 @@ ghost use Rattle.std.specs.Prelude.{◌≡◌, true};
 ghost use Rattle.base.specs.Refusal.{refusal};
 ghost use Rattle.rules.specs.Tests.{board_sides};
 ghost use Rattle.rules.specs.Scores.{counted_checks, score_checks, lift_score_checks};
-ghost use Rattle.rules.specs.Promises.{before};
 
 use rules::Span;
 

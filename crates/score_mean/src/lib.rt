@@ -5,7 +5,6 @@
 ghost use Rattle.std.specs.Prelude.{◌≡◌, true, ◌-◌, ◌<◌, ◌≤◌, length};
 ghost use Rattle.base.specs.Tables.{fold};
 ghost use Rattle.rules.specs.Tests.{tile_number_fits};
-ghost use Rattle.rules.specs.Promises.{before};
 ghost use Rattle.rules.specs.Floats.{zero64};
 ghost use Rattle.rules.specs.Scores.{plus_term};
 ghost use Rattle.score_mean.specs.Box.{term_of, box_row, box_rows, score_at};

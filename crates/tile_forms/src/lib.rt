@@ -4,7 +4,6 @@
 
 ghost use Rattle.std.specs.Prelude.{◌≡◌, ◌+◌, ◌<◌, ◌≤◌};
 ghost use Rattle.rules.specs.Bounds.{max_sample_side, max_tiles};
-ghost use Rattle.rules.specs.Promises.{before};
 ghost use Rattle.rules.specs.Tiles.{sample_cell, starts_along, window_tile, rotated, reflected, turned, turns, forms, form, variant, variants};
 ghost use Rattle.tile_forms.specs.Sample.{Sample};
 

@@ -7,8 +7,8 @@ use Rattle.probability_influence.proofs.block_row.Goals.{Then-i-brows}
 use Rattle.probability_influence.proofs.block_row.Goals as goal
 
 -- a row of a block starts far below the largest number
-start : (c : Then-i-brows) → c.before.args.i * c.before.args.bcols ≤ 127 * 127
-start c = let i≤ : c.before.args.i ≤ 127 = omega arith in mul-le i≤ c.before.requires.1
+start : (c : Then-i-brows) → c.args.i * c.args.bcols ≤ 127 * 127
+start c = let i≤ : c.args.i ≤ 127 = omega arith in mul-le i≤ c.requires.1
 
 pub overflow_mul-result : goal.overflow_mul-result
 overflow_mul-result c = record { fits = omega (arith, start c) }

@@ -2,4 +2,4 @@
 use Rattle.probability_influence.proofs.clipped.Goals as goal
 
 pub returns : goal.returns
-returns c = rw (c.before.least.ensures, c.least-2.ensures)
+returns c = rw (c.least.ensures, c.least-2.ensures)

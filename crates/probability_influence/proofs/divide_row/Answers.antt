@@ -20,21 +20,19 @@ loop-j-init c = (omega arith, sweep-none)
 
 pub loop-j-preserved : goal.loop-j-preserved
 unfolding divided_by
-loop-j-preserved c = let l = c.before.before.before.before in
-    let s = l.before.before.before.before.args in
-    let h : l.loop-j.j < length s.row.now = search rules in
-    let b : l.loop-j.j < length s.factors.now = search rules in
-    let f = get_or s.factors.now l.loop-j.j nan in (
+loop-j-preserved c = let s = c.args in
+    let h : c.loop-j.j < length s.row.now = search rules in
+    let b : c.loop-j.j < length s.factors.now = search rules in
+    let f = get_or s.factors.now c.loop-j.j nan in (
       search rules,
-      sweep-turn l.loop-j.invariant.1 h
+      sweep-turn c.loop-j.invariant.1 h
           (c.quotient.ensures
-          ∙ ap (λ (p : Float). pick (ne f zero64) (over p f) p) (sweep-old l.loop-j.invariant.1 l.loop-j.j (le_refl _) h)
+          ∙ ap (λ (p : Float). pick (ne f zero64) (over p f) p) (sweep-old c.loop-j.invariant.1 c.loop-j.j (le_refl _) h)
           ∙ rw (lt-ltb _ _ b)),
     )
 
 pub returns : goal.returns
 unfolding divided_by
-returns c = let l = c.before in
-    let s = l.before.before.before.before.args in
-    sweep-all (sweep-skip l.loop-j.invariant.1 l.loop-j.invariant.1.reach (le_refl _)
+returns c = let s = c.args in
+    sweep-all (sweep-skip c.loop-j.invariant.1 c.loop-j.invariant.1.reach (le_refl _)
     (λ j h b. pick_no _ _ _ (and-no-left _ _ (le-ltb j (length s.factors.now) (omega arith))))) (le_refl _)

@@ -15,12 +15,11 @@ loop-j-init c = sweep-none
 
 pub loop-j-preserved : goal.loop-j-preserved
 unfolding multiplied_by
-loop-j-preserved c = let l = c.before.before.before in
-    let s = l.before.before.before.args in
-    let h : l.loop-j.j < length s.row.now = search rules in
-    sweep-turn l.loop-j.invariant h
-    (ap (λ (p : Float). times p c.factor.result) (sweep-old l.loop-j.invariant l.loop-j.j (le_refl _) h)
-    ∙ ap (λ (x : Float). times (get_or s.row.now l.loop-j.j nan) x) c.factor.ensures)
+loop-j-preserved c = let s = c.args in
+    let h : c.loop-j.j < length s.row.now = search rules in
+    sweep-turn c.loop-j.invariant h
+    (ap (λ (p : Float). times p c.factor.result) (sweep-old c.loop-j.invariant c.loop-j.j (le_refl _) h)
+    ∙ ap (λ (x : Float). times (get_or s.row.now c.loop-j.j nan) x) c.factor.ensures)
 
 pub returns : goal.returns
-returns c = sweep-all c.before.loop-j.invariant (search rules)
+returns c = sweep-all c.loop-j.invariant (search rules)

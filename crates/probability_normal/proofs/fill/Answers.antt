@@ -10,9 +10,8 @@ pub loop-k-init : goal.loop-k-init
 loop-k-init c = sweep-none
 
 pub loop-k-preserved : goal.loop-k-preserved
-loop-k-preserved c = sweep-turn c.before.loop-k.invariant (search rules) refl
+loop-k-preserved c = sweep-turn c.loop-k.invariant (search rules) refl
 
 pub returns : goal.returns
-returns c = let l = c.before in
-    let s = l.before.args in
-    sweep-all l.loop-k.invariant (search rules) ∙ map-tab (λ (_ : Float). s.x) s.ps.now nan nan
+returns c = let s = c.args in
+    sweep-all c.loop-k.invariant (search rules) ∙ map-tab (λ (_ : Float). s.x) s.ps.now nan nan

@@ -11,9 +11,8 @@ unfolding largest_of
 loop-k-init c = (search rules, refl)
 
 pub loop-k-preserved : goal.loop-k-preserved
-loop-k-preserved c = let l = c.before.before.before in
-    let e = fold_step larger l.before.before.args.ps.now l.loop-k.k nan l.loop-k.most c.before.before.loop-k-test.true in
-    (search rules, rw c.larger-most.ensures (sym e ∙ l.loop-k.invariant.1))
+loop-k-preserved c = let e = fold_step larger c.args.ps.now c.loop-k.k nan c.loop-k.most c.loop-k-test.true in
+    (search rules, rw c.larger-most.ensures (sym e ∙ c.loop-k.invariant.1))
 
 pub returns : goal.returns
-returns c = let l = c.before in sym (fold_done larger l.before.before.args.ps.now l.loop-k.k l.loop-k.most c.loop-k-test.false) ∙ l.loop-k.invariant.1
+returns c = sym (fold_done larger c.args.ps.now c.loop-k.k c.loop-k.most c.loop-k-test.false) ∙ c.loop-k.invariant.1

@@ -14,12 +14,10 @@ pub loop-k-init : goal.loop-k-init
 loop-k-init c = sweep-none
 
 pub loop-k-preserved : goal.loop-k-preserved
-loop-k-preserved c = let l = c.before.before in
-    let s = l.before.args in
-    let h : l.loop-k.k < length s.ps.now = search rules in
-    sweep-turn l.loop-k.invariant h (ap (λ (p : Float). over (over p s.most) s.sum) (sweep-old l.loop-k.invariant l.loop-k.k (le_refl _) h))
+loop-k-preserved c = let s = c.args in
+    let h : c.loop-k.k < length s.ps.now = search rules in
+    sweep-turn c.loop-k.invariant h (ap (λ (p : Float). over (over p s.most) s.sum) (sweep-old c.loop-k.invariant c.loop-k.k (le_refl _) h))
 
 pub returns : goal.returns
-returns c = let l = c.before in
-    let s = l.before.args in
-    sweep-all l.loop-k.invariant (search rules) ∙ map-tab (λ (p : Float). over (over p s.most) s.sum) s.ps.now nan nan
+returns c = let s = c.args in
+    sweep-all c.loop-k.invariant (search rules) ∙ map-tab (λ (p : Float). over (over p s.most) s.sum) s.ps.now nan nan

@@ -11,12 +11,11 @@ unfolding total_of
 loop-k-init c = (search rules, refl)
 
 pub loop-k-preserved : goal.loop-k-preserved
-loop-k-preserved c = let l = c.before.before in (
+loop-k-preserved c = (
   search rules,
-  sym (fold_step (plus_share l.before.args.most) l.before.args.ps.now l.loop-k.k nan l.loop-k.sum c.before.loop-k-test.true)
-      ∙ l.loop-k.invariant.1,
+  sym (fold_step (plus_share c.args.most) c.args.ps.now c.loop-k.k nan c.loop-k.sum c.loop-k-test.true)
+      ∙ c.loop-k.invariant.1,
 )
 
 pub returns : goal.returns
-returns c = let l = c.before in
-    sym (fold_done (plus_share l.before.args.most) l.before.args.ps.now l.loop-k.k l.loop-k.sum c.loop-k-test.false) ∙ l.loop-k.invariant.1
+returns c = sym (fold_done (plus_share c.args.most) c.args.ps.now c.loop-k.k c.loop-k.sum c.loop-k-test.false) ∙ c.loop-k.invariant.1

@@ -1,0 +1,5 @@
+-- `desk::desk_plain_score_near` meets its contract: the answer by its definition, passed on. Assumes nothing.
+use Rattle.desk.proofs.desk_plain_score_near.Goals as goal
+
+pub returns : goal.returns
+returns c = record { answer = _; numbers = c.written.ensures; promised = c.before.before.before.plain_score_near-answer.ensures }

@@ -1,0 +1,7 @@
+-- `harness::port_set_is_empty` meets its contract: the answer by its definition, passed on. Assumes nothing.
+use Rattle.boundary.proofs.Back.{passed_on}
+use Rattle.boundary.specs.Boundary.{verdict_number, verdict_left}
+use Rattle.harness.proofs.port_set_is_empty.Goals as goal
+
+pub returns : goal.returns
+returns c = passed_on verdict_number verdict_left c.is_empty-answer.ensures c.judged.ensures
