@@ -43,6 +43,10 @@ and-go a b p q = rw p q
 pub and-stop : (a b : Bool) → a ≡ false → false ≡ (a && b)
 and-stop a b p = rw p
 
+-- what `a && b` answers where a is not so; `and-go` says the other way out
+pub and-halt : {r : Bool} (a b : Bool) → r ≡ a → r ≡ false → r ≡ (a && b)
+and-halt a b e z = z ∙ and-stop a b (sym e ∙ z)
+
 -- a test `!f(..)` that held, or did not, with what f ensures
 pub fails : {r : Bool} (b : Bool) → r ≡ b → not r ≡ true → b ≡ false
 fails {r} b e t = sym e ∙ not-true r t

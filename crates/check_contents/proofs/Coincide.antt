@@ -5,7 +5,7 @@ use mathlib.Core.Path.{◌≡◌}
 use mathlib.Core.Bool.{Bool}
 use mathlib.Core.List.{List}
 use lib.Ieee.{Float}
-use Rattle.base.specs.Refusal.{refusal}
+use Rattle.rules.specs.Answers.{Answer, checked}
 use Rattle.base.proofs.Chain.{coincide}
 use Rattle.rules.specs.Tests.{none_above}
 use Rattle.rules.specs.Floats.{is_number, is_finite, all_are}
@@ -21,6 +21,6 @@ all-numbers plane p q = coincide p q
 pub all-finite : (plane : List Float) {r s : Bool} → r ≡ all_are is_finite plane → s ≡ all_are is_finite plane → r ≡ s
 all-finite plane p q = coincide p q
 
-pub colours-refused : (tiles : List ℕ) (count : ℕ) (pieces : List ℕ) {r s : ℕ}
-    → r ≡ refusal (contents_checks tiles count pieces) → s ≡ refusal (contents_checks tiles count pieces) → r ≡ s
-colours-refused tiles count pieces p q = coincide p q
+pub check-colours : (tiles : List ℕ) (count : ℕ) (pieces : List ℕ) {r s : Answer Unit}
+    → r ≡ checked (contents_checks tiles count pieces) → s ≡ checked (contents_checks tiles count pieces) → r ≡ s
+check-colours tiles count pieces p q = coincide p q

@@ -4,10 +4,12 @@
 
 ghost use Rattle.std.specs.Prelude.{◌≡◌, true, ◌&&◌, ℕ, ◌<◌, leb};
 ghost use Rattle.base.specs.Counting.{within};
-ghost use Rattle.base.specs.Refusal.{refusal};
+ghost use Rattle.rules.specs.Answers.{checked};
 ghost use Rattle.rules.specs.Tests.{colour_count, none_above, pieces_stored};
 ghost use Rattle.rules.specs.Floats.{is_number, is_finite, all_are};
 ghost use Rattle.rules.specs.Fit.{contents_checks};
+
+use rules::Refusal;
 
 // Both: made of one operation without a branch.
 fn and_too(sofar: bool, here: bool) -> bool
@@ -35,10 +37,8 @@ pub fn no_byte_above(plane: &[u8], most: u32) -> bool
 {
     let limit = byte_limit(most);
     let mut fine = true;
-    let mut k = 0;
-    while k < plane.len() {
-        fine = and_too(fine, byte_up_to(plane[k], limit));
-        k += 1;
+    for cell in plane {
+        fine = and_too(fine, byte_up_to(*cell, limit));
     }
     fine
 }
@@ -47,10 +47,8 @@ pub fn no_word_above(plane: &[u32], most: u32) -> bool
     ensures { result ≡ none_above plane.now most }
 {
     let mut fine = true;
-    let mut k = 0;
-    while k < plane.len() {
-        fine = and_too(fine, plane[k] <= most);
-        k += 1;
+    for cell in plane {
+        fine = and_too(fine, *cell <= most);
     }
     fine
 }
@@ -67,28 +65,26 @@ fn pieces_stored(pieces: &[u32], count: u32) -> bool
 {
     let most = count + 1;
     let mut fine = true;
-    let mut k = 0;
-    while k < pieces.len() {
-        fine = and_too(fine, piece_stored(pieces[k], most));
-        k += 1;
+    for piece in pieces {
+        fine = and_too(fine, piece_stored(*piece, most));
     }
     fine
 }
 
-// COUNT, then CELL of the tiles and of the stored pieces; 0 where all pass.
-pub fn colours_refused(tiles: &[u8], count: u32, pieces: &[u32]) -> u8
-    ensures { result ≡ refusal (contents_checks tiles.now count pieces.now) }
+// COUNT, then CELL of the tiles and of the stored pieces.
+pub fn check_colours(tiles: &[u8], count: u32, pieces: &[u32]) -> Result<(), Refusal>
+    ensures { result ≡ checked (contents_checks tiles.now count pieces.now) }
 {
     if !check_sizes::colour_count(count) {
-        return rules::COUNT;
+        return Err(Refusal::Count);
     }
     if !no_byte_above(tiles, count) {
-        return rules::CELL;
+        return Err(Refusal::Cell);
     }
     if !pieces_stored(pieces, count) {
-        return rules::CELL;
+        return Err(Refusal::Cell);
     }
-    0
+    Ok(())
 }
 
 // Not a NaN and not below zero, which -0.0 is not.
@@ -108,10 +104,8 @@ pub fn all_numbers(plane: &[f64]) -> bool
     ensures { result ≡ all_are is_number plane.now }
 {
     let mut fine = true;
-    let mut k = 0;
-    while k < plane.len() {
-        fine = and_too(fine, is_number(plane[k]));
-        k += 1;
+    for x in plane {
+        fine = and_too(fine, is_number(*x));
     }
     fine
 }
@@ -120,10 +114,8 @@ pub fn all_finite(plane: &[f64]) -> bool
     ensures { result ≡ all_are is_finite plane.now }
 {
     let mut fine = true;
-    let mut k = 0;
-    while k < plane.len() {
-        fine = and_too(fine, is_finite(plane[k]));
-        k += 1;
+    for x in plane {
+        fine = and_too(fine, is_finite(*x));
     }
     fine
 }

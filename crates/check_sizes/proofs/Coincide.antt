@@ -7,7 +7,7 @@ use mathlib.Core.List.{List}
 use Rattle.base.proofs.Chain.{coincide}
 use Rattle.rules.specs.Tests.{board_sides, sample_sides, has_length, tile_number_fits, whole_tiles, colour_count}
 use Rattle.rules.specs.Tiles.{tiles_counted}
-use Rattle.rules.specs.declared.TileNumber.{TileNumber}
+use Rattle.rules.specs.Answers.{Answer}
 
 pub board-sides : (rows cols : ℕ) {r s : Bool} → r ≡ board_sides rows cols → s ≡ board_sides rows cols → r ≡ s
 board-sides rows cols p q = coincide p q
@@ -25,7 +25,7 @@ tile-number-fits n p q = coincide p q
 pub whole-tiles : (tiles : List ℕ) {r s : Bool} → r ≡ whole_tiles tiles → s ≡ whole_tiles tiles → r ≡ s
 whole-tiles tiles p q = coincide p q
 
-pub tile-number : (tiles : List ℕ) {r s : TileNumber} → r ≡ tiles_counted tiles → s ≡ tiles_counted tiles → r ≡ s
+pub tile-number : (tiles : List ℕ) {r s : Answer ℕ} → r ≡ tiles_counted tiles → s ≡ tiles_counted tiles → r ≡ s
 tile-number tiles p q = coincide p q
 
 pub colour-count : (count : ℕ) {r s : Bool} → r ≡ colour_count count → s ≡ colour_count count → r ≡ s

@@ -6,32 +6,24 @@ ghost use Rattle.base.specs.Counting.{within};
 ghost use Rattle.rules.specs.Tests.{board_sides, sample_sides, has_length, tile_number_fits, whole_tiles, colour_count};
 ghost use Rattle.rules.specs.Tiles.{tiles_counted};
 
-use rules::TileNumber;
+use rules::Refusal;
 
 fn within_bounds(least: usize, most: usize, n: usize) -> bool
     ensures { result ≡ within least most n }
 {
-    if least <= n { n <= most } else { false }
+    least <= n && n <= most
 }
 
 pub fn board_sides(rows: usize, cols: usize) -> bool
     ensures { result ≡ board_sides rows cols }
 {
-    if within_bounds(1, rules::MAX_BOARD_SIDE, rows) {
-        within_bounds(1, rules::MAX_BOARD_SIDE, cols)
-    } else {
-        false
-    }
+    within_bounds(1, rules::MAX_BOARD_SIDE, rows) && within_bounds(1, rules::MAX_BOARD_SIDE, cols)
 }
 
 pub fn sample_sides(rows: usize, cols: usize) -> bool
     ensures { result ≡ sample_sides rows cols }
 {
-    if within_bounds(1, rules::MAX_SAMPLE_SIDE, rows) {
-        within_bounds(1, rules::MAX_SAMPLE_SIDE, cols)
-    } else {
-        false
-    }
+    within_bounds(1, rules::MAX_SAMPLE_SIDE, rows) && within_bounds(1, rules::MAX_SAMPLE_SIDE, cols)
 }
 
 // How many cells a board has whose sides are in bounds.
@@ -42,19 +34,8 @@ pub fn cells_of(rows: usize, cols: usize) -> usize
     rows * cols
 }
 
-pub fn bytes_have_length(plane: &[u8], n: usize) -> bool
-    ensures { result ≡ has_length plane.now n }
-{
-    plane.len() == n
-}
-
-pub fn words_have_length(plane: &[u32], n: usize) -> bool
-    ensures { result ≡ has_length plane.now n }
-{
-    plane.len() == n
-}
-
-pub fn floats_have_length(plane: &[f64], n: usize) -> bool
+// Whatever the plane holds.
+pub fn has_length<T>(plane: &[T], n: usize) -> bool
     ensures { result ≡ has_length plane.now n }
 {
     plane.len() == n
@@ -69,29 +50,21 @@ pub fn tile_number_fits(n: usize) -> bool
 pub fn whole_tiles(tiles: &[u8]) -> bool
     ensures { result ≡ whole_tiles tiles.now }
 {
-    if tiles.len() % rules::TILE_CELLS == 0 {
-        tile_number_fits(tiles.len() / rules::TILE_CELLS)
-    } else {
-        false
-    }
+    tiles.len() % rules::TILE_CELLS == 0 && tile_number_fits(tiles.len() / rules::TILE_CELLS)
 }
 
 // How many tiles a list has.
-pub fn tile_number(tiles: &[u8]) -> TileNumber
+pub fn tile_number(tiles: &[u8]) -> Result<usize, Refusal>
     ensures { result ≡ tiles_counted tiles.now }
 {
     if !whole_tiles(tiles) {
-        return TileNumber::Refused(rules::LENGTH);
+        return Err(Refusal::Length);
     }
-    TileNumber::Tiles(tiles.len() / rules::TILE_CELLS)
+    Ok(tiles.len() / rules::TILE_CELLS)
 }
 
 pub fn colour_count(count: u32) -> bool
     ensures { result ≡ colour_count count }
 {
-    if 1 <= count {
-        count <= rules::MAX_COLOURS
-    } else {
-        false
-    }
+    1 <= count && count <= rules::MAX_COLOURS
 }

@@ -1,110 +1,136 @@
--- What each way out of a call answers, for each kind of answer, from its checks: base's laws in the words of this kind. `..-refused` and
--- `..-told` are of calls that tell, `refused` and `done` of calls that write and answer `Done` or a refusal.
---     answers     all of them, for `search`
+-- What each way out of a call answers, from its checks.
+--     numbered, reasons    a refusal has a number, which names it; and the numbers 1 to 10 are those of the refusals that they name
+--     by-number, caught, stopped, went-on    that a call answers a refusal: by its number, or because a part answered it, one that stands
+--         first or one behind parts that pass
+--     passed, told-by      of a part that did not refuse: its checks pass, and what it told
+--     refuses, tells       what a call that tells answers; refused, done what one that writes promises, and was-written what such a promise says
+--     answers              all that `search` needs, beside base's `chain`
 -- Assumes nothing.
-use Prim.Native.Nat.{ℕ, zero, suc}
-use mathlib.Core.Path.{◌≡◌, refl, ◌∙◌, ap}
+use Prim.Native.Nat.{ℕ, zero, suc, pred, ◌≤◌}
+use mathlib.Core.Path.{◌≡◌, refl, sym, ◌∙◌, ap}
 use mathlib.Core.Bool.{Bool, true}
-use lib.Ieee.{Float}
 use native.Mathlib.Omega.{arith}
-use Rattle.base.specs.Refusal.{Checks, refusal, Does}
-use Rattle.base.proofs.Chain.{refusing}
-use Rattle.base.proofs.Answered.{refuses, tells, was-refused, was-done, left-new}
-use Rattle.rules.specs.Answers.{span_answer, extension_answer, verdict_answer, count_answer, tile_answer, set_answer, listing_answer, fraction_answer, written_answer, lay_answer, lift_answer}
+use Rattle.std.specs.Prelude.{Ok, Err}
+use Rattle.base.specs.Counting.{every}
+use Rattle.base.specs.Refusal.{Checks, ◌then◌, or_else, refusal, unless_refused, Gives}
+use borrow.Author.Tests.{eqb-true}
+use lib.Dec.{eqb}
+use Rattle.base.proofs.Counted.{every-at}
+use Rattle.base.proofs.Chain.{go, has_new, kept-old}
+use Rattle.rules.specs.Answers.{Answer, answered, checked, number, reason}
 use Rattle.rules.specs.Promises.{Writes}
-use Rattle.rules.specs.declared.Span.{Span}
-use Rattle.rules.specs.declared.ExtensionInfo.{ExtensionInfo}
-use Rattle.rules.specs.declared.TileBitset.{TileBitset}
-use Rattle.rules.specs.declared.SpanAnswer.TheVariants as SpanAnswer·
-use Rattle.rules.specs.declared.ExtensionAnswer.TheVariants as ExtensionAnswer·
-use Rattle.rules.specs.declared.Verdict.TheVariants as Verdict·
-use Rattle.rules.specs.declared.CountAnswer.TheVariants as CountAnswer·
-use Rattle.rules.specs.declared.TileNumber.TheVariants as TileNumber·
-use Rattle.rules.specs.declared.SetAnswer.TheVariants as SetAnswer·
-use Rattle.rules.specs.declared.Listing.TheVariants as Listing·
-use Rattle.rules.specs.declared.FractionAnswer.TheVariants as FractionAnswer·
-use Rattle.rules.specs.declared.Written.TheVariants as Written·
-use Rattle.rules.specs.declared.LayAnswer.TheVariants as LayAnswer·
-use Rattle.rules.specs.declared.LiftAnswer.TheVariants as LiftAnswer·
+use Rattle.rules.specs.declared.Refusal.{Refusal}
+use Rattle.rules.specs.declared.Refusal.TheVariants as Refusal·
 
--- ---- calls that tell
+pub numbered : (r : Refusal) → reason (number r) ≡ r
+numbered Refusal·.Shape = refl
+numbered Refusal·.Length = refl
+numbered Refusal·.Count = refl
+numbered Refusal·.Cell = refl
+numbered Refusal·.Number = refl
+numbered Refusal·.Place = refl
+numbered Refusal·.Type = refl
+numbered Refusal·.Taken = refl
+numbered Refusal·.Bare = refl
+numbered Refusal·.Room = refl
+
+abbrev named : ℕ → Bool
+named i = eqb (number (reason (suc i))) (suc i)
+
+all-named : every 10 named ≡ true
+unfolding every
+all-named = refl
+
+pub reasons : (n : ℕ) → 1 ≤ n → n ≤ 10 → number (reason n) ≡ n
+reasons n l m =
+    let i = pred n in
+    let e : n ≡ suc i = omega arith in
+    rw e (eqb-true _ _ (every-at named 10 all-named i (omega arith)))
+
+-- ---- a refusal among answers
+
+-- acceptance is no refusal
+no-refusal : {A : Type 0} {a : A} {r : Refusal} → Err r ≡ Ok a → ⊥
+no-refusal e = let z : ◌≡◌ {A = ℕ} 0 1 = cc in omega arith
+
+from-number : {A : Type 0} (r : Refusal) (a : A) (n : ℕ) → number r ≡ n → Err r ≡ answered n a
+from-number Refusal·.Shape a n e = rw (sym e)
+from-number Refusal·.Length a n e = rw (sym e)
+from-number Refusal·.Count a n e = rw (sym e)
+from-number Refusal·.Cell a n e = rw (sym e)
+from-number Refusal·.Number a n e = rw (sym e)
+from-number Refusal·.Place a n e = rw (sym e)
+from-number Refusal·.Type a n e = rw (sym e)
+from-number Refusal·.Taken a n e = rw (sym e)
+from-number Refusal·.Bare a n e = rw (sym e)
+from-number Refusal·.Room a n e = rw (sym e)
+
+-- the value that acceptance would tell does not matter
+other-value : {A B : Type 0} {r : Refusal} (n : ℕ) (a : A) (b : B) → Err r ≡ answered n a → Err r ≡ answered n b
+other-value zero a b e = absurd (no-refusal e)
+other-value (suc n) a b e = cc
+
+first-stays : {r : Refusal} (n m : ℕ) → Err r ≡ answered {A = Unit {0}} n tt → Err r ≡ answered {A = Unit {0}} (or_else n m) tt
+first-stays zero m e = absurd (no-refusal e)
+first-stays (suc n) m e = e
+
+module _ {r : Refusal} (cs : Checks) where
+  pub by-number : number r ≡ refusal cs → Err r ≡ checked cs
+  by-number e = from-number r tt (refusal cs) e
+
+  pub caught : {A : Type 0} {x : Answer A} (a : A) → x ≡ answered (refusal cs) a → x ≡ Err r → Err r ≡ checked cs
+  caught a e was = other-value (refusal cs) a tt (sym was ∙ e)
+
+  pub stopped : (ds : Checks) → Err r ≡ checked cs → Err r ≡ checked (cs then ds)
+  unfolding refusal
+  stopped ds e = first-stays (refusal cs) (refusal ds) e
+
+  pub went-on : (ds : Checks) → 0 ≡ refusal cs → Err r ≡ checked ds → Err r ≡ checked (cs then ds)
+  went-on ds z e = e ∙ ap (λ (n : ℕ). answered n tt) (go (refusal ds) cs ds z refl)
+
+  pub refuses : {A : Type 0} (a : A) → Err r ≡ checked cs → Err r ≡ answered (refusal cs) a
+  refuses a e = other-value (refusal cs) tt a e
+
+-- ---- acceptance
+
+zero-from : {A : Type 0} {x : Answer A} {b : A} (n : ℕ) (a : A) → x ≡ answered n a → x ≡ Ok b → 0 ≡ n
+zero-from zero a e was = refl
+zero-from (suc n) a e was = absurd (no-refusal (sym e ∙ was))
+
+value-from : {A : Type 0} {x : Answer A} {b : A} (n : ℕ) (a : A) → x ≡ answered n a → x ≡ Ok b → b ≡ a
+value-from zero a e was = cc
+value-from (suc n) a e was = absurd (no-refusal (sym e ∙ was))
 
 module _ (cs : Checks) where
-  pub span-refused : (r c : Span) (n : ℕ) → refusing n ≡ true → n ≡ refusal cs → SpanAnswer·.Refused n ≡ span_answer (refusal cs) r c
-  span-refused r c n t e = refuses (λ (m : ℕ) (x : Span). span_answer m x c) SpanAnswer·.Refused (λ m a. refl) cs r n t e
+  pub passed : {A : Type 0} {x : Answer A} {b : A} (a : A) → x ≡ answered (refusal cs) a → x ≡ Ok b → 0 ≡ refusal cs
+  passed a e was = zero-from (refusal cs) a e was
 
-  pub span-told : {x y r c : Span} → 0 ≡ refusal cs → x ≡ r → y ≡ c → SpanAnswer·.Spans x y ≡ span_answer (refusal cs) r c
-  span-told {x} {y} {r} {c} e p q = ap (λ (z : Span). SpanAnswer·.Spans x z) q ∙ tells (λ (m : ℕ) (z : Span). span_answer m z c) cs e p
+  pub told-by : {A : Type 0} {x : Answer A} {b : A} (a : A) → x ≡ answered (refusal cs) a → x ≡ Ok b → b ≡ a
+  told-by a e was = value-from (refusal cs) a e was
 
-  pub extension-refused : (a : ExtensionInfo) (n : ℕ) → refusing n ≡ true → n ≡ refusal cs → ExtensionAnswer·.Refused n ≡ extension_answer (refusal cs) a
-  extension-refused a n t e = refuses extension_answer ExtensionAnswer·.Refused (λ m b. refl) cs a n t e
-
-  pub extension-told : {x a : ExtensionInfo} → 0 ≡ refusal cs → x ≡ a → ExtensionAnswer·.Extension x ≡ extension_answer (refusal cs) a
-  extension-told e p = tells extension_answer cs e p
-
-  pub verdict-refused : (a : Bool) (n : ℕ) → refusing n ≡ true → n ≡ refusal cs → Verdict·.Refused n ≡ verdict_answer (refusal cs) a
-  verdict-refused a n t e = refuses verdict_answer Verdict·.Refused (λ m b. refl) cs a n t e
-
-  pub verdict-told : {x a : Bool} → 0 ≡ refusal cs → x ≡ a → Verdict·.Is x ≡ verdict_answer (refusal cs) a
-  verdict-told e p = tells verdict_answer cs e p
-
-  pub count-refused : (a : ℕ) (n : ℕ) → refusing n ≡ true → n ≡ refusal cs → CountAnswer·.Refused n ≡ count_answer (refusal cs) a
-  count-refused a n t e = refuses count_answer CountAnswer·.Refused (λ m b. refl) cs a n t e
-
-  pub count-told : {x a : ℕ} → 0 ≡ refusal cs → x ≡ a → CountAnswer·.Is x ≡ count_answer (refusal cs) a
-  count-told e p = tells count_answer cs e p
-
-  pub tiles-refused : (a : ℕ) (n : ℕ) → refusing n ≡ true → n ≡ refusal cs → TileNumber·.Refused n ≡ tile_answer (refusal cs) a
-  tiles-refused a n t e = refuses tile_answer TileNumber·.Refused (λ m b. refl) cs a n t e
-
-  pub tiles-told : {x a : ℕ} → 0 ≡ refusal cs → x ≡ a → TileNumber·.Tiles x ≡ tile_answer (refusal cs) a
-  tiles-told e p = tells tile_answer cs e p
-
-  pub set-refused : (a : TileBitset) (n : ℕ) → refusing n ≡ true → n ≡ refusal cs → SetAnswer·.Refused n ≡ set_answer (refusal cs) a
-  set-refused a n t e = refuses set_answer SetAnswer·.Refused (λ m b. refl) cs a n t e
-
-  pub set_told : {x a : TileBitset} → 0 ≡ refusal cs → x ≡ a → SetAnswer·.Set x ≡ set_answer (refusal cs) a
-  set_told e p = tells set_answer cs e p
-
-  pub listing-refused : (a : TileBitset) (n : ℕ) → refusing n ≡ true → n ≡ refusal cs → Listing·.Refused n ≡ listing_answer (refusal cs) a
-  listing-refused a n t e = refuses listing_answer Listing·.Refused (λ m b. refl) cs a n t e
-
-  pub listing-told : {x a : TileBitset} → 0 ≡ refusal cs → x ≡ a → Listing·.Colours x ≡ listing_answer (refusal cs) a
-  listing-told e p = tells listing_answer cs e p
-
-  pub fraction-refused : (a : Float) (n : ℕ) → refusing n ≡ true → n ≡ refusal cs → FractionAnswer·.Refused n ≡ fraction_answer (refusal cs) a
-  fraction-refused a n t e = refuses fraction_answer FractionAnswer·.Refused (λ m b. refl) cs a n t e
-
-  pub fraction-told : {x a : Float} → 0 ≡ refusal cs → x ≡ a → FractionAnswer·.Is x ≡ fraction_answer (refusal cs) a
-  fraction-told e p = tells fraction_answer cs e p
+  pub tells : {A : Type 0} {x a : A} → 0 ≡ refusal cs → x ≡ a → Ok x ≡ answered (refusal cs) a
+  tells {x = x} {a = a} e p = ap (λ (n : ℕ). answered n x) e ∙ ap (λ y. answered (refusal cs) y) p
 
 -- ---- calls that write
 
-module _ {B : Type 0} (cs : Checks) (new old : B) where
-  pub refused : (n : ℕ) → refusing n ≡ true → n ≡ refusal cs → Writes cs new old (Written·.Refused n) old
-  refused n t e = was-refused written_answer Written·.Refused (λ m. refl) cs new old n t e
+module _ {A B : Type 0} (cs : Checks) (a : A) (new old : B) where
+  pub refused : {r : Refusal} → Err r ≡ checked cs → Gives (answered (refusal cs) a) (unless_refused (refusal cs) new old) (Err r) old
+  refused e =
+      record {
+        answered = refuses cs a e;
+        leaves = sym (kept-old (refusal cs) new old (λ z. no-refusal (e ∙ ap (λ (n : ℕ). answered n tt) z)));
+      }
 
-  pub done : {after : B} → 0 ≡ refusal cs → after ≡ new → Writes cs new old Written·.Done after
-  done {after} e q = was-done written_answer Written·.Refused (λ m. refl) cs new old Written·.Done after refl e q
+  pub done : {x : A} {after : B} → 0 ≡ refusal cs → x ≡ a → after ≡ new → Gives (answered (refusal cs) a) (unless_refused (refusal cs) new old) (Ok x) after
+  done e p q = record { answered = tells cs e p; leaves = q ∙ sym (has_new (refusal cs) new old (sym e)) }
 
-  -- a call that answered `Done` passed its checks and left the new contents
-  pub was-written : {after : B} → Writes cs new old Written·.Done after → (refusal cs ≡ 0) × (after ≡ new)
-  was-written w = left-new written_answer cs new old (λ r e. zero_of r e) w
-    where
-      zero_of : (r : ℕ) → Written·.Done ≡ written_answer r → r ≡ 0
-      zero_of zero e = refl
-      zero_of (suc r) e = absurd (let z : ◌≡◌ {A = ℕ} 0 1 = cc in omega arith)
+  -- a call that was accepted passed its checks, told this and left the new contents
+  pub was-done : {x : A} {after : B} → Gives (answered (refusal cs) a) (unless_refused (refusal cs) new old) (Ok x) after
+      → (refusal cs ≡ 0) × (x ≡ a) × (after ≡ new)
+  was-done w =
+      let z = sym (zero-from (refusal cs) a w.answered refl) in (z, value-from (refusal cs) a w.answered refl, w.leaves ∙ has_new (refusal cs) new old z)
 
-  pub lay-refused : (n : ℕ) → refusing n ≡ true → n ≡ refusal cs → Does cs lay_answer new old (LayAnswer·.Refused n) old
-  lay-refused n t e = was-refused lay_answer LayAnswer·.Refused (λ m. refl) cs new old n t e
+pub was-written : {B : Type 0} (cs : Checks) (new old : B) {after : B} → Writes cs new old (Ok tt) after → (refusal cs ≡ 0) × (after ≡ new)
+was-written cs new old w = let d = was-done cs tt new old w in (d.0, d.2)
 
-  pub lay_done : {after : B} → 0 ≡ refusal cs → after ≡ new → Does cs lay_answer new old LayAnswer·.Laid after
-  lay_done {after} e q = was-done lay_answer LayAnswer·.Refused (λ m. refl) cs new old LayAnswer·.Laid after refl e q
-
-  pub lift-refused : (n : ℕ) → refusing n ≡ true → n ≡ refusal cs → Does cs lift_answer new old (LiftAnswer·.Refused n) old
-  lift-refused n t e = was-refused lift_answer LiftAnswer·.Refused (λ m. refl) cs new old n t e
-
-  pub lift-done : {after : B} → 0 ≡ refusal cs → after ≡ new → Does cs lift_answer new old LiftAnswer·.Lifted after
-  lift-done {after} e q = was-done lift_answer LiftAnswer·.Refused (λ m. refl) cs new old LiftAnswer·.Lifted after refl e q
-
-pub ruleset answers = (span-refused, span-told, extension-refused, extension-told, verdict-refused, verdict-told, count-refused, count-told, tiles-refused, tiles-told, set-refused, set_told, listing-refused, listing-told, fraction-refused, fraction-told, refused, done, lay-refused, lay_done, lift-refused, lift-done)
+pub ruleset answers = (by-number, caught, stopped, went-on, refuses, passed, tells, refused, done)

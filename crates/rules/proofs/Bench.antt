@@ -27,68 +27,65 @@ use Rattle.rules.specs.Board.{Panel, Board, weights_of, counts_of, raised, lower
 use Rattle.rules.specs.ForcedRun.{still_forced, queueing, taking, stepped, begun, run_out, run_checks, running, after_run}
 use Rattle.rules.specs.Widening.{widened_pieces, widened_weights, widened, widening, after_widen}
 use Rattle.rules.specs.Promises.{board, panel}
+use Rattle.std.specs.Prelude.{Option, Some, None, Ok, Err}
+use Rattle.rules.specs.Answers.{Answer, number}
+use Rattle.rules.specs.declared.Cell.{Cell}
+use Rattle.rules.specs.declared.TileBitset.{TileBitset}
+use Rattle.rules.specs.declared.ExtensionInfo.{ExtensionInfo}
+use Rattle.rules.specs.declared.RanOut.{RanOut}
+use Rattle.rules.specs.declared.RunEnd.{RunEnd}
+use Rattle.rules.specs.declared.RunEnd.TheVariants as RunEnd·
+use Rattle.rules.specs.declared.ForcedPositions.{ForcedPositions}
 use Rattle.rules.specs.declared.World.{World}
 use Rattle.rules.specs.declared.Offset.{Offset}
 use Rattle.rules.specs.declared.Span.{Span}
 use Rattle.rules.specs.declared.BoundingBox.{BoundingBox}
 use Rattle.rules.specs.declared.Pads.{Pads}
-use Rattle.rules.specs.declared.GenerationBounds.{GenerationBounds}
-use Rattle.rules.specs.declared.GenerationBounds.TheVariants.{Unbounded, Within}
 use Rattle.rules.specs.declared.ForcedPosition.{ForcedPosition}
-use Rattle.rules.specs.declared.ForcedAnswer.{ForcedAnswer}
-use Rattle.rules.specs.declared.Listing.{Listing}
-use Rattle.rules.specs.declared.Listing.TheVariants as Listing·
-use Rattle.rules.specs.declared.DeadEnd.{DeadEnd}
-use Rattle.rules.specs.declared.DeadEnd.TheVariants as DeadEnd·
-use Rattle.rules.specs.declared.TileNumber.{TileNumber}
-use Rattle.rules.specs.declared.TileNumber.TheVariants as TileNumber·
-use Rattle.rules.specs.declared.WidenAnswer.{WidenAnswer}
-use Rattle.rules.specs.declared.WidenAnswer.TheVariants as WidenAnswer·
-use Rattle.rules.specs.declared.RunAnswer.{RunAnswer}
-use Rattle.rules.specs.declared.RunAnswer.TheVariants as RunAnswer·
-use Rattle.rules.specs.declared.ExtensionAnswer.{ExtensionAnswer}
-use Rattle.rules.specs.declared.ExtensionAnswer.TheVariants as ExtensionAnswer·
 
 -- ---- answers as lists of numbers
 
-abbrev listed : Listing → List ℕ
-listed (Listing·.Colours s) = 0 ∷ members_of s
-listed (Listing·.Refused n) = n ∷ []
+abbrev told : {A : Type 0} → (A → List ℕ) → Answer A → List ℕ
+told values (Ok a) = 0 ∷ values a
+told values (Err r) = number r ∷ []
 
-abbrev tiles-of : TileNumber → List ℕ
-tiles-of (TileNumber·.Tiles n) = 0 ∷ n ∷ []
-tiles-of (TileNumber·.Refused n) = n ∷ []
+abbrev listed : Answer TileBitset → List ℕ
+listed = told members_of
 
-abbrev dead : DeadEnd → List ℕ
-dead (DeadEnd·.At k) = 0 ∷ k.0 ∷ k.1 ∷ []
-dead DeadEnd·.Nowhere = 0 ∷ []
-dead (DeadEnd·.Refused n) = n ∷ []
+abbrev tiles-of : Answer ℕ → List ℕ
+tiles-of = told (λ n. n ∷ [])
+
+abbrev cell-in : Option Cell → List ℕ
+cell-in (Some k) = k.0 ∷ k.1 ∷ []
+cell-in None = []
+
+abbrev dead : Answer (Option Cell) → List ℕ
+dead = told cell-in
 
 -- left, right, top, bottom and the new offset, which is not negative in these cases
-abbrev padded-by : ExtensionAnswer → List ℕ
-padded-by (ExtensionAnswer·.Extension e) =
-    0 ∷ e.pads.left ∷ e.pads.right ∷ e.pads.top ∷ e.pads.bottom ∷ clip e.offset.0 ∷ clip e.offset.1 ∷ []
-padded-by (ExtensionAnswer·.Refused n) = n ∷ []
+abbrev padded-by : Answer ExtensionInfo → List ℕ
+padded-by = told (λ e. e.pads.left ∷ e.pads.right ∷ e.pads.top ∷ e.pads.bottom ∷ clip e.offset.0 ∷ clip e.offset.1 ∷ [])
 
 -- the new offset, with a thousand added, since it is negative in these cases
-abbrev offset-of : WidenAnswer → List ℕ
-offset-of (WidenAnswer·.Widened o) = 0 ∷ clip (o.0 +ℤ pos 1000) ∷ clip (o.1 +ℤ pos 1000) ∷ []
-offset-of (WidenAnswer·.Refused n) = n ∷ []
+abbrev offset-of : Answer Offset → List ℕ
+offset-of = told (λ o. clip (o.0 +ℤ pos 1000) ∷ clip (o.1 +ℤ pos 1000) ∷ [])
 
 -- how a forced run ended, 0 done, 1 spent, 2 full; how many entries were taken, and how many laid
-abbrev ended : RunAnswer → List ℕ
-ended (RunAnswer·.Done taken laid) = 0 ∷ 0 ∷ taken ∷ laid ∷ []
-ended (RunAnswer·.Spent taken laid) = 0 ∷ 1 ∷ taken ∷ laid ∷ []
-ended (RunAnswer·.Full taken laid) = 0 ∷ 2 ∷ taken ∷ laid ∷ []
-ended (RunAnswer·.Refused n) = n ∷ []
+abbrev end-number : RunEnd → ℕ
+end-number RunEnd·.Done = 0
+end-number RunEnd·.Spent = 1
+end-number RunEnd·.Full = 2
+
+abbrev ended : Answer RanOut → List ℕ
+ended = told (λ r. end-number r.end ∷ r.taken ∷ r.laid ∷ [])
 
 -- row, column and colour of each place; the coordinates are not negative in these cases
 abbrev spots : List ForcedPosition → List ℕ
 spots [] = []
 spots (e ∷ l) = clip e.coordinates.0 ∷ clip e.coordinates.1 ∷ e.colour ∷ spots l
 
-abbrev forced : ForcedAnswer → List ℕ
-forced a = a.refused ∷ spots a.found.entries
+abbrev forced : Answer ForcedPositions → List ℕ
+forced = told (λ found. spots found.entries)
 
 abbrev bits-of : List Float → List ℕ
 bits-of l = map (λ (x : Float). to_bits binary64 x) l
@@ -127,7 +124,7 @@ corner = after_lay three 2 fresh (at 0 0) 1
 abbrev pair : Board
 pair = after_lay three 2 corner (at 0 1) 1
 
-abbrev listing-on : Board → World → Listing
+abbrev listing-on : Board → World → Answer TileBitset
 listing-on b w = listing flat b.pieces 3 3 chequer 2 w origin
 
 abbrev box : BoundingBox
@@ -144,8 +141,8 @@ abbrev placed : Board
 placed = after_lay single 2 (fresh_board 1 1) (at 0 0) 1
 
 -- forced runs from the centre of the chequer board, and on a row of three bare cells
-abbrev ran : Board → ℕ → RunAnswer
-ran b budget = running three 2 b (at 1 1) Unbounded budget
+abbrev ran : Board → ℕ → Answer RanOut
+ran b budget = running three 2 b (at 1 1) None budget
 
 abbrev row : List ℕ → Panel
 row tiles = panel 1 3 tiles origin
@@ -158,8 +155,8 @@ abbrev closing : Panel
 closing = row (1 ∷ 1 ∷ 2 ∷ 1 ∷ 2 ∷ 1 ∷ 1 ∷ 2 ∷ 1 ∷ 1 ∷ 2 ∷ 1 ∷ 2 ∷ 1 ∷ 1 ∷ 2 ∷ 1 ∷ 1 ∷ [])
 
 -- the second cell alone
-abbrev second : GenerationBounds
-second = Within (record { min = at 0 1; max = at 0 1 })
+abbrev second : Option BoundingBox
+second = Some (record { min = at 0 1; max = at 0 1 })
 
 -- a panel of two rows and one column, its weights by no rule
 abbrev narrow : Panel
@@ -232,7 +229,7 @@ table =
     -- Then 1 laid at (1,1): (0,0) lists 1, (0,1) lists 2; forced neighbours in order are 1,2,1,2,2,1,2,1
     ∷ case (listed (listing-on centre (at 0 0))) (0 ∷ 1 ∷ [])
     ∷ case (listed (listing-on centre (at 0 1))) (0 ∷ 2 ∷ [])
-    ∷ case (forced (forced_neighbours flat centre.pieces 3 3 chequer 2 (at 1 1) origin Unbounded))
+    ∷ case (forced (forced_neighbours flat centre.pieces 3 3 chequer 2 (at 1 1) origin None))
     (0 ∷ 0 ∷ 0 ∷ 1 ∷ 0 ∷ 1 ∷ 2 ∷ 0 ∷ 2 ∷ 1 ∷ 1 ∷ 0 ∷ 2 ∷ 1 ∷ 2 ∷ 2 ∷ 2 ∷ 0 ∷ 1 ∷ 2 ∷ 1 ∷ 2 ∷ 2 ∷ 2 ∷ 1 ∷ [])
     -- Chequer 3x3, 1 at (0,0) and at (0,1): dead end (0,2), whose weight is 5
     ∷ case (dead (dead_end flat pair.pieces pair.weights 3 3 chequer 2)) (0 ∷ 0 ∷ 2 ∷ [])
@@ -264,21 +261,21 @@ table =
     -- Document 02, request 2. Chequer with 1 at the centre: all eight neighbours are forced, and taken row by row
     ∷ case (ended (ran centre 0)) (0 ∷ 1 ∷ 0 ∷ 0 ∷ [])
     ∷ case (ended (ran centre 4)) (0 ∷ 1 ∷ 4 ∷ 4 ∷ [])
-    ∷ case (after_run three 2 centre (at 1 1) Unbounded 4).pieces (2 ∷ 3 ∷ 2 ∷ 3 ∷ 2 ∷ 1 ∷ 1 ∷ 1 ∷ 1 ∷ [])
+    ∷ case (after_run three 2 centre (at 1 1) None 4).pieces (2 ∷ 3 ∷ 2 ∷ 3 ∷ 2 ∷ 1 ∷ 1 ∷ 1 ∷ 1 ∷ [])
     ∷ case (ended (ran centre 7)) (0 ∷ 1 ∷ 7 ∷ 7 ∷ [])
     ∷ case (ended (ran centre 8)) (0 ∷ 0 ∷ 8 ∷ 8 ∷ [])
     -- nothing waits: done, also at budget 0
     ∷ case (ended (ran fresh 0)) (0 ∷ 0 ∷ 0 ∷ 0 ∷ [])
     -- an entry whose cell lists nothing any more is taken and dropped
-    ∷ case (ended (running closing 2 (fresh_board 3 2) (at 0 1) Unbounded 9)) (0 ∷ 0 ∷ 3 ∷ 2 ∷ [])
-    ∷ case (after_run closing 2 (fresh_board 3 2) (at 0 1) Unbounded 9).pieces (2 ∷ 1 ∷ 2 ∷ [])
+    ∷ case (ended (running closing 2 (fresh_board 3 2) (at 0 1) None 9)) (0 ∷ 0 ∷ 3 ∷ 2 ∷ [])
+    ∷ case (after_run closing 2 (fresh_board 3 2) (at 0 1) None 9).pieces (2 ∷ 1 ∷ 2 ∷ [])
     -- a box keeps later addings inside too
     ∷ case (ended (running plain 1 (fresh_board 3 1) (at 0 0) second 9)) (0 ∷ 0 ∷ 1 ∷ 1 ∷ [])
     ∷ case (after_run plain 1 (fresh_board 3 1) (at 0 0) second 9).pieces (1 ∷ 2 ∷ 1 ∷ [])
     -- the largest budget, one more, and of several faults the lowest
-    ∷ case (refusal (run_checks three 2 centre (at 1 1) Unbounded 4096) ∷ []) (0 ∷ [])
+    ∷ case (refusal (run_checks three 2 centre (at 1 1) None 4096) ∷ []) (0 ∷ [])
     ∷ case (ended (ran centre 4097)) (1 ∷ [])
-    ∷ case (ended (running three 0 centre (at 3 3) (Within box) 4097)) (1 ∷ [])
+    ∷ case (ended (running three 0 centre (at 3 3) (Some box) 4097)) (1 ∷ [])
     -- Document 02, request 4. Counts 5 0 4 2 / 1 6 3 0 / 3 4 1 5 of 6 tiles: the mean over each cell's box, which has fewer cells in the
     -- first two rows and columns. At (2,2) the bits tell the order of the sum: column by column it is 0.5
     ∷ case (bits-of (whole_scores 3 4 mixed 6))

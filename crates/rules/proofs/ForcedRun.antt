@@ -8,6 +8,7 @@
 --     begun-room     the first adding never meets ROOM
 --     stays          a run that is full, or in which no entry waits, stays as it is
 -- Assumes nothing.
+use Rattle.std.specs.Prelude.{Option, None}
 use Prim.Native.Nat.{ℕ, zero, suc, ◌+◌, ◌<◌, ◌≤◌}
 use mathlib.Core.Path.{◌≡◌, refl, ◌∙◌, ap}
 use mathlib.Core.Bool.{Bool, true, false}
@@ -24,7 +25,7 @@ use Rattle.base.proofs.Bools.{pick_yes, pick_no}
 use Rattle.base.proofs.Numbers.{lt-or-le}
 use Rattle.base.specs.Tables.{tab, those, fold}
 use Rattle.rules.specs.Bounds.{queue_room}
-use Rattle.rules.specs.Answers.{run_answer}
+use Rattle.rules.specs.Answers.{end_by}
 use Rattle.rules.specs.Forced.{with_positions, neighbour, admits, forces_one, is_forced, forced_there, forced_round, is_queued, with_position}
 use Rattle.rules.specs.Board.{Panel, Board, shape_of, entry_in, laid, fresh_board}
 use Rattle.rules.specs.ForcedRun.{Run, forced_by, still_forced, queueing, taking, taking_from, stepped, begun, run_out}
@@ -34,12 +35,11 @@ use Rattle.rules.specs.Grid.{entry_or_past, flat}
 use Rattle.rules.specs.Places.{cell_of, same_place}
 use Rattle.rules.specs.Fit.{agrees, fits_tile, has_fitting, allows, left_after}
 use Rattle.rules.specs.declared.World.{World}
-use Rattle.rules.specs.declared.RunAnswer.TheVariants as RunAnswer·
-use Rattle.rules.specs.declared.GenerationBounds.{GenerationBounds}
+use Rattle.rules.specs.declared.RunEnd.TheVariants as RunEnd·
 use Rattle.rules.specs.declared.ForcedPosition.{ForcedPosition}
-use Rattle.rules.specs.declared.GenerationBounds.TheVariants.{Unbounded}
 use Rattle.rules.proofs.Queues.{few-more, forced-few}
 use Rattle.rules.proofs.Choices.{plain}
+use Rattle.rules.specs.declared.BoundingBox.{BoundingBox}
 
 -- ---- the last room, and one entry more
 
@@ -55,7 +55,7 @@ waiting n =
     }
 
 abbrev added : ℕ → Run
-added n = queueing plain 1 Unbounded (record { 0 = pos 1; 1 = pos 1 }) (waiting n)
+added n = queueing plain 1 None (record { 0 = pos 1; 1 = pos 1 }) (waiting n)
 
 pub last-room : (length (added 56).queue ≡ 64) × ((added 56).full ≡ false) × ((added 57).queue ≡ (waiting 57).queue) × ((added 57).full ≡ true)
 unfolding queueing refusal fold tab those every some fresh_board with_positions with_position is_queued same_place forced_round forced_there is_forced forces_one neighbour admits on_board colours_of left_after allows has_fitting fits_tile agrees flat entry_or_past cell_of
@@ -65,14 +65,14 @@ last-room = (refl, refl, refl, refl)
 
 -- the entry next out is the centre, and 57 wait behind it
 abbrev laid_last : Run
-laid_last = taking plain 1 Unbounded (waiting 57) (record { coordinates = record { 0 = pos 1; 1 = pos 1 }; colour = 1 }) (waiting 57).queue
+laid_last = taking plain 1 None (waiting 57) (record { coordinates = record { 0 = pos 1; 1 = pos 1 }; colour = 1 }) (waiting 57).queue
 
-pub lay-stands : (run_answer 0 laid_last.full laid_last.queue laid_last.taken (length laid_last.lain) ≡ RunAnswer·.Full 1 1)
+pub lay-stands : (end_by laid_last.full laid_last.queue ≡ RunEnd·.Full) × (laid_last.taken ≡ 1) × (length laid_last.lain ≡ 1)
     × (laid_last.board.pieces ≡ set (fresh_board 9 1).pieces 4 2)
 unfolding still_forced taking laid queueing refusal fold tab those every some fresh_board with_positions with_position is_queued same_place forced_round forced_there is_forced forces_one neighbour admits on_board colours_of left_after allows has_fitting fits_tile agrees flat entry_or_past cell_of
-lay-stands = (refl, refl)
+lay-stands = (refl, refl, refl, refl)
 
-module _ (j : Panel) (count : ℕ) (bounds : GenerationBounds) where
+module _ (j : Panel) (count : ℕ) (bounds : Option BoundingBox) where
   -- the queue with the forced neighbours of a place
   abbrev pub queued_by : World → Run → List ForcedPosition
   queued_by place s = with_positions s.queue (forced_by j count bounds s.board place)
@@ -173,7 +173,7 @@ module _ (j : Panel) (count : ℕ) (bounds : GenerationBounds) where
 -- ---- the room of its queue, as the number 64
 
 -- "full (an adding would meet ROOM; that lay stands)"
-pub adding-is : (j : Panel) (count : ℕ) (bounds : GenerationBounds) (place : World) (s : Run)
+pub adding-is : (j : Panel) (count : ℕ) (bounds : Option BoundingBox) (place : World) (s : Run)
     → let more = with_positions s.queue (forced_by j count bounds s.board place) in
     queueing j count bounds place s
     ≡ record { board = s.board; queue = pick (ltb 64 (length more)) s.queue more; taken = s.taken; lain = s.lain; full = ltb 64 (length more) }

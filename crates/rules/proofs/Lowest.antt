@@ -1,6 +1,7 @@
 -- Document 01, "Refusal numbers, lowest first when several hold": in every call's list of checks the numbers ascend, so what is answered
 -- is the lowest number of all checks that fail. One law over a list whose numbers ascend, by computation; then each call's list.
 -- Assumes nothing.
+use Rattle.std.specs.Prelude.{Option}
 use Prim.Native.Nat.{ℕ, ◌<◌, ◌≤◌}
 use mathlib.Core.Bool.{Bool, true}
 use mathlib.Core.Path.{◌≡◌, refl}
@@ -24,7 +25,6 @@ use Rattle.rules.specs.declared.Cell.{Cell}
 use Rattle.rules.specs.declared.Span.{Span}
 use Rattle.rules.specs.declared.Pads.{Pads}
 use Rattle.rules.specs.declared.BoundingBox.{BoundingBox}
-use Rattle.rules.specs.declared.GenerationBounds.{GenerationBounds}
 use Rattle.rules.specs.declared.TileBitset.{TileBitset}
 use Rattle.rules.specs.declared.ForcedPositions.{ForcedPositions}
 use Rattle.rules.specs.declared.ForcedPipeline.{ForcedPipeline}
@@ -81,7 +81,7 @@ listing-lowest pieces rows cols tiles count w o = by_order _ refl refl
 pub region-lowest : (pieces : List ℕ) (rows cols : ℕ) (tiles : List ℕ) (count : ℕ) (s : Cell) → Lowest (region_checks pieces rows cols tiles count s)
 region-lowest pieces rows cols tiles count s = by_order _ refl refl
 
-pub forced-lowest : (pieces : List ℕ) (rows cols : ℕ) (tiles : List ℕ) (count : ℕ) (w : World) (o : Offset) (b : GenerationBounds) → Lowest (forced_checks pieces rows cols tiles count w o b)
+pub forced-lowest : (pieces : List ℕ) (rows cols : ℕ) (tiles : List ℕ) (count : ℕ) (w : World) (o : Offset) (b : Option BoundingBox) → Lowest (forced_checks pieces rows cols tiles count w o b)
 forced-lowest pieces rows cols tiles count w o b = by_order _ refl refl
 
 pub queue-lowest : (q : ForcedPipeline) → Lowest (queue_checks q)
@@ -107,7 +107,7 @@ lift-lowest j count b w = by_order _ refl refl
 pub widen-lowest : (j : Panel) (count : ℕ) (b : Board) (p : Pads) (lent : Board) → Lowest (widen_checks j count b p lent)
 widen-lowest j count b p lent = by_order _ refl refl
 
-pub run-lowest : (j : Panel) (count : ℕ) (b : Board) (w : World) (bounds : GenerationBounds) (budget : ℕ) → Lowest (run_checks j count b w bounds budget)
+pub run-lowest : (j : Panel) (count : ℕ) (b : Board) (w : World) (bounds : Option BoundingBox) (budget : ℕ) → Lowest (run_checks j count b w bounds budget)
 run-lowest j count b w bounds budget = by_order _ refl refl
 
 pub weight-lowest : (weights : List ℕ) (rows cols : ℕ) (w : World) (o : Offset) → Lowest (weight_checks weights rows cols w o)

@@ -5,6 +5,7 @@
 --     each-forced        what holds of each place that is forced holds of each forced neighbour
 --     forced-few         there are at most eight of them
 -- Assumes nothing.
+use Rattle.std.specs.Prelude.{Option}
 use Prim.Native.Nat.{ℕ, ◌+◌, ◌≤◌}
 use mathlib.Core.Path.{◌≡◌, refl}
 use mathlib.Core.Bool.{Bool, true, false, not, ◌&&◌}
@@ -23,8 +24,8 @@ use Rattle.rules.specs.Grid.{Kind}
 use Rattle.rules.specs.Forced.{neighbour, is_forced, forced_there, forced_round, is_queued, with_position, with_positions}
 use Rattle.rules.specs.declared.World.{World}
 use Rattle.rules.specs.declared.Offset.{Offset}
-use Rattle.rules.specs.declared.GenerationBounds.{GenerationBounds}
 use Rattle.rules.specs.declared.ForcedPosition.{ForcedPosition}
+use Rattle.rules.specs.declared.BoundingBox.{BoundingBox}
 
 -- ---- one position
 
@@ -79,7 +80,7 @@ module _ (P : ForcedPosition → Type 0) where
 
 -- ---- forced neighbours
 
-module _ (kind : Kind) (pieces : List ℕ) (rows cols : ℕ) (tiles : List ℕ) (count : ℕ) (place : World) (offset : Offset) (bounds : GenerationBounds) where
+module _ (kind : Kind) (pieces : List ℕ) (rows cols : ℕ) (tiles : List ℕ) (count : ℕ) (place : World) (offset : Offset) (bounds : Option BoundingBox) where
   pub each-forced : (P : ForcedPosition → Type 0)
       → ((v : World) → is_forced kind pieces rows cols tiles count v offset bounds ≡ true → P (forced_there kind pieces rows cols tiles count v offset))
       → Each P (forced_round kind pieces rows cols tiles count place offset bounds)

@@ -5,14 +5,12 @@ use Rattle.base.specs.Tables.{tab}
 use Rattle.base.specs.Refusal.{Checks, ◌unless◌, ◌then◌, refusal, unless_refused}
 use Rattle.rules.specs.Bounds.{max_weight, bare, SHAPE, LENGTH, CELL, TYPE, TAKEN, BARE}
 use Rattle.rules.specs.Tests.{board_sides, has_length, whole_tiles, tiles_in, tile_number_fits, none_above}
-use Rattle.rules.specs.Answers.{lay_answer, lift_answer}
+use Rattle.rules.specs.Answers.{Answer, checked}
 use Rattle.rules.specs.Places.{cell_of}
 use Rattle.rules.specs.Grid.{Shape, Kind, entry_of, laid_on}
 use Rattle.rules.specs.Fit.{pattern, fit_count, contents_checks, place_checks}
 use Rattle.rules.specs.declared.World.{World}
 use Rattle.rules.specs.declared.Offset.{Offset}
-use Rattle.rules.specs.declared.LayAnswer.{LayAnswer}
-use Rattle.rules.specs.declared.LiftAnswer.{LiftAnswer}
 
 -- "size, tiles and offset": what stays fixed from call to call, and how the grid of that size hangs together
 pub record Panel : Type 0 where
@@ -136,11 +134,11 @@ lift_checks j count b place =
     then lifting_checks b.pieces (entry_in j place)
 
 -- what a lay and a lift answer
-abbrev pub laying : Panel → ℕ → Board → World → ℕ → LayAnswer
-laying j count b place colour = lay_answer (refusal (lay_checks j count b place colour))
+abbrev pub laying : Panel → ℕ → Board → World → ℕ → Answer Unit
+laying j count b place colour = checked (lay_checks j count b place colour)
 
-abbrev pub lifting : Panel → ℕ → Board → World → LiftAnswer
-lifting j count b place = lift_answer (refusal (lift_checks j count b place))
+abbrev pub lifting : Panel → ℕ → Board → World → Answer Unit
+lifting j count b place = checked (lift_checks j count b place)
 
 -- the board that a call leaves; a refused call changes nothing
 unfoldable pub after_lay : Panel → ℕ → Board → World → ℕ → Board

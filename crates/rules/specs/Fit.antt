@@ -4,7 +4,7 @@ use Rattle.base.specs.Counting.{every, some, tally}
 use Rattle.base.specs.Refusal.{Checks, ◌unless◌, ◌then◌, refusal}
 use Rattle.rules.specs.Bounds.{tile_cells, SHAPE, LENGTH, COUNT, CELL, PLACE}
 use Rattle.rules.specs.Tests.{board_sides, has_length, whole_tiles, tiles_in, colour_count, none_above, pieces_stored, on_wall, offset_fits, on_board}
-use Rattle.rules.specs.Answers.{listing_answer, count_answer}
+use Rattle.rules.specs.Answers.{Answer, answered}
 use Rattle.rules.specs.Sets.{set_of}
 use Rattle.rules.specs.Places.{cell_of}
 use Rattle.rules.specs.Grid.{Shape, Kind, entry_of, on_grid, colour_on}
@@ -12,8 +12,6 @@ use Rattle.rules.specs.declared.World.{World}
 use Rattle.rules.specs.declared.Offset.{Offset}
 use Rattle.rules.specs.declared.Cell.{Cell}
 use Rattle.rules.specs.declared.TileBitset.{TileBitset}
-use Rattle.rules.specs.declared.Listing.{Listing}
-use Rattle.rules.specs.declared.CountAnswer.{CountAnswer}
 
 -- the 3x3 pattern of what starts at s: the colour at each place, 0 where it is bare
 abbrev pub pattern : Shape → List ℕ → ℕ → ℕ → ℕ
@@ -87,9 +85,9 @@ listing_checks pieces rows cols tiles count place offset = pieces_checks pieces 
 abbrev pub found_at : Shape → List ℕ → List ℕ → ℕ → ℕ → TileBitset
 found_at g tiles pieces count k = set_of count (lists g tiles pieces k)
 
-unfoldable pub listing : Kind → List ℕ → ℕ → ℕ → List ℕ → ℕ → World → Offset → Listing
+unfoldable pub listing : Kind → List ℕ → ℕ → ℕ → List ℕ → ℕ → World → Offset → Answer TileBitset
 listing kind pieces rows cols tiles count place offset =
-    listing_answer
+    answered
     (refusal (listing_checks pieces rows cols tiles count place offset))
     (found_at (kind rows cols) tiles pieces count (entry_of cols (cell_of place offset)))
 
@@ -97,8 +95,8 @@ abbrev pub region_checks : List ℕ → ℕ → ℕ → List ℕ → ℕ → Cel
 region_checks pieces rows cols tiles count s = pieces_checks pieces rows cols tiles count then PLACE unless on_grid rows cols s
 
 -- the number of tiles that fit the region that starts at a cell; past the edge it is bare
-unfoldable pub region_count : Kind → List ℕ → ℕ → ℕ → List ℕ → ℕ → Cell → CountAnswer
+unfoldable pub region_count : Kind → List ℕ → ℕ → ℕ → List ℕ → ℕ → Cell → Answer ℕ
 region_count kind pieces rows cols tiles count s =
-    count_answer
+    answered
     (refusal (region_checks pieces rows cols tiles count s))
     (fit_count tiles (pattern (kind rows cols) pieces (entry_of cols s)))

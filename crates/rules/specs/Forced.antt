@@ -1,28 +1,24 @@
 -- Document 01, "Fit": forced neighbours, the queue, the dead end.
-use Rattle.std.specs.Prelude.{ℕ, ◌-◌, ◌*◌, ◌/◌, ◌%◌, Bool, true, false, not, ◌&&◌, ◌||◌, List, [], ◌∷◌, ◌++◌, leb, ltb, eqb, length, get_or, take, drop, replicate, pos, ◌+ℤ◌, ◌-ℤ◌}
+use Rattle.std.specs.Prelude.{Option, Some, None, ℕ, ◌-◌, ◌*◌, ◌/◌, ◌%◌, Bool, true, false, not, ◌&&◌, ◌||◌, List, [], ◌∷◌, ◌++◌, leb, ltb, eqb, length, get_or, take, drop, replicate, pos, ◌+ℤ◌, ◌-ℤ◌}
 use Rattle.base.specs.Counting.{pick, first}
 use Rattle.base.specs.Tables.{those, fold}
 use Rattle.base.specs.Refusal.{Checks, ◌unless◌, ◌then◌, refusal, unless_refused}
 use Rattle.rules.specs.Bounds.{max_weight, queue_room, added_room, SHAPE, LENGTH, CELL, PLACE, ROOM}
 use Rattle.rules.specs.Tests.{board_sides, has_length, whole_tiles, none_above, on_wall, on_board}
-use Rattle.rules.specs.Answers.{verdict_answer, count_answer, written_answer, dead_end_answer, next_answer}
+use Rattle.rules.specs.Answers.{Answer, answered, if_there, next_of}
 use Rattle.rules.specs.Places.{cell_of, same_place, in_box, box_fits}
 use Rattle.rules.specs.Sets.{colours_of}
 use Rattle.rules.specs.Grid.{Shape, Kind, entry_of, cell_with, laid_on}
 use Rattle.rules.specs.Fit.{lists, contents_checks, pieces_checks, place_checks}
 use Rattle.rules.specs.declared.World.{World}
 use Rattle.rules.specs.declared.Offset.{Offset}
-use Rattle.rules.specs.declared.GenerationBounds.{GenerationBounds}
-use Rattle.rules.specs.declared.GenerationBounds.TheVariants.{Unbounded, Within}
 use Rattle.rules.specs.declared.ForcedPosition.{ForcedPosition}
 use Rattle.rules.specs.declared.ForcedPositions.{ForcedPositions}
 use Rattle.rules.specs.declared.ForcedPipeline.{ForcedPipeline}
-use Rattle.rules.specs.declared.ForcedAnswer.{ForcedAnswer}
 use Rattle.rules.specs.declared.Taken.{Taken}
 use Rattle.rules.specs.declared.Grown.{Grown}
-use Rattle.rules.specs.declared.Verdict.{Verdict}
-use Rattle.rules.specs.declared.CountAnswer.{CountAnswer}
-use Rattle.rules.specs.declared.DeadEnd.{DeadEnd}
+use Rattle.rules.specs.declared.BoundingBox.{BoundingBox}
+use Rattle.rules.specs.declared.Cell.{Cell}
 
 -- ---- forced neighbours
 
@@ -31,14 +27,14 @@ unfoldable pub neighbour : World → ℕ → World
 neighbour place d = record { 0 = (place.0 +ℤ pos (d / 3)) -ℤ pos 1; 1 = (place.1 +ℤ pos (d % 3)) -ℤ pos 1 }
 
 -- not outside the box, if one is given
-unfoldable pub admits : GenerationBounds → World → Bool
-admits Unbounded place = true
-admits (Within b) place = in_box b place
+unfoldable pub admits : Option BoundingBox → World → Bool
+admits None place = true
+admits (Some b) place = in_box b place
 
 -- the corners of the box, if one is given, are on the wall
-unfoldable pub bounds_fit : GenerationBounds → Bool
-bounds_fit Unbounded = true
-bounds_fit (Within b) = box_fits b
+unfoldable pub bounds_fit : Option BoundingBox → Bool
+bounds_fit None = true
+bounds_fit (Some b) = box_fits b
 
 -- the colours listed at cell k
 abbrev pub listed_at : Shape → List ℕ → List ℕ → ℕ → ℕ → List ℕ
@@ -55,7 +51,7 @@ unfoldable pub forces_one : Shape → List ℕ → List ℕ → ℕ → ℕ → 
 forces_one g tiles pieces count k = not (laid_on pieces k) && eqb (length (listed_at g tiles pieces count k)) 1
 
 -- omitted are those outside the box or the grid, those laid, and those with other than one listed colour
-unfoldable pub is_forced : Kind → List ℕ → ℕ → ℕ → List ℕ → ℕ → World → Offset → GenerationBounds → Bool
+unfoldable pub is_forced : Kind → List ℕ → ℕ → ℕ → List ℕ → ℕ → World → Offset → Option BoundingBox → Bool
 is_forced kind pieces rows cols tiles count place offset b =
     admits b place && on_board rows cols place offset && forces_one (kind rows cols) tiles pieces count (entry_of cols (cell_of place offset))
 
@@ -64,7 +60,7 @@ forced_there kind pieces rows cols tiles count place offset =
     record { coordinates = place; colour = only (listed_at (kind rows cols) tiles pieces count (entry_of cols (cell_of place offset))) }
 
 -- the eight neighbours row by row
-unfoldable pub forced_round : Kind → List ℕ → ℕ → ℕ → List ℕ → ℕ → World → Offset → GenerationBounds → List ForcedPosition
+unfoldable pub forced_round : Kind → List ℕ → ℕ → ℕ → List ℕ → ℕ → World → Offset → Option BoundingBox → List ForcedPosition
 forced_round kind pieces rows cols tiles count place offset b =
     those 9 (λ d. not (eqb d 4) && is_forced kind pieces rows cols tiles count (neighbour place d) offset b)
     (λ d. forced_there kind pieces rows cols tiles count (neighbour place d) offset)
@@ -79,17 +75,18 @@ padded room l = l ++ replicate (room - length l) no_position
 unfoldable pub positions_of : List ForcedPosition → ForcedPositions
 positions_of l = record { entries = padded added_room l; len = length l }
 
-abbrev pub bounds_checks : GenerationBounds → Checks
+abbrev pub bounds_checks : Option BoundingBox → Checks
 bounds_checks b = PLACE unless bounds_fit b
 
-abbrev pub forced_checks : List ℕ → ℕ → ℕ → List ℕ → ℕ → World → Offset → GenerationBounds → Checks
+abbrev pub forced_checks : List ℕ → ℕ → ℕ → List ℕ → ℕ → World → Offset → Option BoundingBox → Checks
 forced_checks pieces rows cols tiles count place offset b =
     pieces_checks pieces rows cols tiles count then place_checks rows cols place offset then bounds_checks b
 
-unfoldable pub forced_neighbours : Kind → List ℕ → ℕ → ℕ → List ℕ → ℕ → World → Offset → GenerationBounds → ForcedAnswer
+unfoldable pub forced_neighbours : Kind → List ℕ → ℕ → ℕ → List ℕ → ℕ → World → Offset → Option BoundingBox → Answer ForcedPositions
 forced_neighbours kind pieces rows cols tiles count place offset b =
-    let n : ℕ = refusal (forced_checks pieces rows cols tiles count place offset b) in
-    record { refused = n; found = positions_of (unless_refused n (forced_round kind pieces rows cols tiles count place offset b) []) }
+    answered
+    (refusal (forced_checks pieces rows cols tiles count place offset b))
+    (positions_of (forced_round kind pieces rows cols tiles count place offset b))
 
 -- ---- the queue: first in, first out. Its entries stand from entry 0, next out first; those past its length are not read
 
@@ -141,19 +138,19 @@ add_checks q p = entry_checks q p then room_checks (with_positions (queued q) (o
 unfoldable pub grown_by : ForcedPipeline → ForcedPositions → Grown
 grown_by q p =
     let n : ℕ = refusal (add_checks q p) in
-    record { answer = written_answer n; queue = unless_refused n (queue_of (with_positions (queued q) (offered p))) q }
+    record { answer = answered n tt; queue = unless_refused n (queue_of (with_positions (queued q) (offered p))) q }
 
 -- Taking from an empty queue says "nothing"
 unfoldable pub taken_from : ForcedPipeline → Taken
 taken_from q =
     let n : ℕ = refusal (queue_checks q) in
-    record { next = next_answer n (queued q); queue = unless_refused n (queue_of (drop 1 (queued q))) q }
+    record { next = answered n (next_of (queued q)); queue = unless_refused n (queue_of (drop 1 (queued q))) q }
 
-unfoldable pub queue_empty : ForcedPipeline → Verdict
-queue_empty q = verdict_answer (refusal (queue_checks q)) (eqb q.len 0)
+unfoldable pub queue_empty : ForcedPipeline → Answer Bool
+queue_empty q = answered (refusal (queue_checks q)) (eqb q.len 0)
 
-unfoldable pub queue_length : ForcedPipeline → CountAnswer
-queue_length q = count_answer (refusal (queue_checks q)) q.len
+unfoldable pub queue_length : ForcedPipeline → Answer ℕ
+queue_length q = answered (refusal (queue_checks q)) q.len
 
 -- ---- the dead end: the first cell, row by row, that is bare, has weight above 1 and lists no colour
 
@@ -172,10 +169,9 @@ abbrev pub scan_checks : List ℕ → List ℕ → ℕ → ℕ → List ℕ → 
 scan_checks pieces weights rows cols tiles count =
     scan_lengths pieces weights rows cols tiles then contents_checks tiles count pieces then CELL unless none_above weights max_weight
 
-unfoldable pub dead_end : Kind → List ℕ → List ℕ → ℕ → ℕ → List ℕ → ℕ → DeadEnd
+unfoldable pub dead_end : Kind → List ℕ → List ℕ → ℕ → ℕ → List ℕ → ℕ → Answer (Option Cell)
 dead_end kind pieces weights rows cols tiles count =
     let k : ℕ = first (rows * cols) (dead_at (kind rows cols) tiles pieces weights count) in
-    dead_end_answer
+    answered
     (refusal (scan_checks pieces weights rows cols tiles count))
-    (ltb k (rows * cols))
-    (cell_with cols k)
+    (if_there (ltb k (rows * cols)) (cell_with cols k))

@@ -1,4 +1,5 @@
 pub mod Bounds
+pub mod Number
 pub mod Tests
 pub mod Answers
 pub mod Grid

@@ -8,7 +8,7 @@ use Rattle.base.specs.Refusal.{Checks, ◌unless◌, ◌then◌, refusal}
 use Rattle.rules.specs.Bounds.{max_radius, SHAPE, LENGTH, NUMBER, PLACE}
 use Rattle.rules.specs.Tests.{board_sides, has_length, row_index, col_index, on_wall, offset_fits}
 use Rattle.rules.specs.Grid.{cell_at, entry_of}
-use Rattle.rules.specs.Answers.{span_answer, verdict_answer, extension_answer}
+use Rattle.rules.specs.Answers.{Answer, answered}
 use Rattle.rules.specs.Floats.{is_number, all_are}
 use Rattle.rules.specs.declared.World.{World}
 use Rattle.rules.specs.declared.Cell.{Cell}
@@ -17,9 +17,7 @@ use Rattle.rules.specs.declared.Span.{Span}
 use Rattle.rules.specs.declared.BoundingBox.{BoundingBox}
 use Rattle.rules.specs.declared.Pads.{Pads}
 use Rattle.rules.specs.declared.ExtensionInfo.{ExtensionInfo}
-use Rattle.rules.specs.declared.SpanAnswer.{SpanAnswer}
-use Rattle.rules.specs.declared.Verdict.{Verdict}
-use Rattle.rules.specs.declared.ExtensionAnswer.{ExtensionAnswer}
+use Rattle.rules.specs.declared.Spans.{Spans}
 
 -- the cell of a wall coordinate; one above or left of the grid has none, and 0 stands for its index
 unfoldable pub cell_of : World → Offset → Cell
@@ -38,8 +36,11 @@ span_checks offset place k =
     then PLACE unless on_wall place
     then PLACE unless offset_fits offset
 
-unfoldable pub region_spans : Offset → World → ℕ → SpanAnswer
-region_spans offset place k = span_answer (refusal (span_checks offset place k)) (span_of (row_index place offset) k) (span_of (col_index place offset) k)
+unfoldable pub region_spans : Offset → World → ℕ → Answer Spans
+region_spans offset place k =
+    answered
+    (refusal (span_checks offset place k))
+    (record { rows = span_of (row_index place offset) k; cols = span_of (col_index place offset) k })
 
 -- A box with min above max contains nothing
 unfoldable pub in_box : BoundingBox → World → Bool
@@ -51,8 +52,8 @@ box_fits b = on_wall b.min && on_wall b.max
 abbrev pub box_checks : BoundingBox → World → Checks
 box_checks b place = PLACE unless box_fits b then PLACE unless on_wall place
 
-unfoldable pub box_contains : BoundingBox → World → Verdict
-box_contains b place = verdict_answer (refusal (box_checks b place)) (in_box b place)
+unfoldable pub box_contains : BoundingBox → World → Answer Bool
+box_contains b place = answered (refusal (box_checks b place)) (in_box b place)
 
 -- the coordinates of the first and of the last cell of a side
 unfoldable pub first_of : ℤ → ℤ
@@ -106,16 +107,16 @@ extension_by offset p =
 abbrev pub extension_checks : ℕ → ℕ → Offset → World → ℕ → Checks
 extension_checks rows cols offset place k = SHAPE unless board_sides rows cols then span_checks offset place k
 
-unfoldable pub extension_of : ℕ → ℕ → Offset → World → ℕ → ExtensionAnswer
+unfoldable pub extension_of : ℕ → ℕ → Offset → World → ℕ → Answer ExtensionInfo
 extension_of rows cols offset place k =
-    extension_answer (refusal (extension_checks rows cols offset place k)) (extension_by offset (pads_of rows cols offset place k))
+    answered (refusal (extension_checks rows cols offset place k)) (extension_by offset (pads_of rows cols offset place k))
 
 abbrev pub boxed_extension_checks : ℕ → ℕ → Offset → World → ℕ → BoundingBox → Checks
 boxed_extension_checks rows cols offset place k b = extension_checks rows cols offset place k then PLACE unless box_fits b
 
-unfoldable pub boxed_extension : ℕ → ℕ → Offset → World → ℕ → BoundingBox → ExtensionAnswer
+unfoldable pub boxed_extension : ℕ → ℕ → Offset → World → ℕ → BoundingBox → Answer ExtensionInfo
 boxed_extension rows cols offset place k b =
-    extension_answer
+    answered
     (refusal (boxed_extension_checks rows cols offset place k b))
     (extension_by offset (boxed_pads b rows cols offset (pads_of rows cols offset place k)))
 

@@ -7,7 +7,7 @@ use Rattle.base.specs.Tables.{tab, those, fold}
 use Rattle.base.specs.Refusal.{Checks, ◌unless◌, ◌then◌, refusal}
 use Rattle.rules.specs.Bounds.{SHAPE, LENGTH, CELL, NUMBER, PLACE}
 use Rattle.rules.specs.Tests.{board_sides, has_length, tile_number_fits, none_above, row_index, col_index}
-use Rattle.rules.specs.Answers.{fraction_answer}
+use Rattle.rules.specs.Answers.{Answer, answered}
 use Rattle.rules.specs.Places.{span_of}
 use Rattle.rules.specs.Grid.{cell_at, entry_of, on_grid}
 use Rattle.rules.specs.Fit.{place_checks}
@@ -16,7 +16,6 @@ use Rattle.rules.specs.declared.World.{World}
 use Rattle.rules.specs.declared.Offset.{Offset}
 use Rattle.rules.specs.declared.Cell.{Cell}
 use Rattle.rules.specs.declared.Span.{Span}
-use Rattle.rules.specs.declared.FractionAnswer.{FractionAnswer}
 
 -- Fraction = count / tiles
 unfoldable pub fraction : List ℕ → ℕ → ℕ → Float
@@ -93,9 +92,9 @@ fraction_checks counts rows cols tiles k =
     then CELL unless none_above counts tiles
     then PLACE unless on_grid rows cols k
 
-unfoldable pub fraction_at : List ℕ → ℕ → ℕ → ℕ → Cell → FractionAnswer
+unfoldable pub fraction_at : List ℕ → ℕ → ℕ → ℕ → Cell → Answer Float
 fraction_at counts rows cols tiles k =
-    fraction_answer (refusal (fraction_checks counts rows cols tiles k)) (fraction counts tiles (entry_of cols k))
+    answered (refusal (fraction_checks counts rows cols tiles k)) (fraction counts tiles (entry_of cols k))
 
 abbrev pub score_checks : List Float → List ℕ → ℕ → ℕ → ℕ → Checks
 score_checks scores counts rows cols tiles =

@@ -1,15 +1,12 @@
 -- Document 01, "a set is 32 bits with its size": sets of colours, over any number of bits.
-use Rattle.std.specs.Prelude.{ℕ, zero, suc, ◌+◌, ◌-◌, ◌^◌, ◌/◌, ◌%◌, Bool, true, false, ◌&&◌, ◌||◌, List, [], ◌++◌, ltb, eqb, length, replicate}
+use Rattle.std.specs.Prelude.{ℕ, zero, suc, ◌+◌, ◌-◌, ◌^◌, ◌/◌, ◌%◌, Bool, true, false, ◌&&◌, ◌||◌, List, ◌++◌, ltb, eqb, length, replicate}
 use Rattle.base.specs.Counting.{pick}
 use Rattle.base.specs.Tables.{those}
 use Rattle.base.specs.Refusal.{Checks, ◌unless◌, ◌then◌, refusal}
 use Rattle.rules.specs.Bounds.{max_colours, COUNT, CELL}
 use Rattle.rules.specs.Tests.{colour_count}
-use Rattle.rules.specs.Answers.{set_answer, verdict_answer, count_answer}
+use Rattle.rules.specs.Answers.{Answer, answered}
 use Rattle.rules.specs.declared.TileBitset.{TileBitset}
-use Rattle.rules.specs.declared.SetAnswer.{SetAnswer}
-use Rattle.rules.specs.declared.Verdict.{Verdict}
-use Rattle.rules.specs.declared.CountAnswer.{CountAnswer}
 use Rattle.rules.specs.declared.ColourList.{ColourList}
 
 -- colour t is in the set of these bits; 0 is in none
@@ -49,38 +46,34 @@ sets_checks s u =
 abbrev pub new_set_checks : ℕ → Checks
 new_set_checks n = COUNT unless colour_count n
 
-unfoldable pub empty_set : ℕ → SetAnswer
-empty_set n = set_answer (refusal (new_set_checks n)) (set_of n (λ t. false))
+unfoldable pub empty_set : ℕ → Answer TileBitset
+empty_set n = answered (refusal (new_set_checks n)) (set_of n (λ t. false))
 
-unfoldable pub full_set : ℕ → SetAnswer
-full_set n = set_answer (refusal (new_set_checks n)) (set_of n (λ t. true))
+unfoldable pub full_set : ℕ → Answer TileBitset
+full_set n = answered (refusal (new_set_checks n)) (set_of n (λ t. true))
 
 -- 0 and a colour past the size are left out, as in the text
-unfoldable pub inserted : TileBitset → ℕ → SetAnswer
-inserted s t = set_answer (refusal (set_checks s)) (set_of s.size (λ u. has s.bits u || eqb u t))
+unfoldable pub inserted : TileBitset → ℕ → Answer TileBitset
+inserted s t = answered (refusal (set_checks s)) (set_of s.size (λ u. has s.bits u || eqb u t))
 
-unfoldable pub contained : TileBitset → ℕ → Verdict
-contained s t = verdict_answer (refusal (set_checks s)) (has s.bits t)
+unfoldable pub contained : TileBitset → ℕ → Answer Bool
+contained s t = answered (refusal (set_checks s)) (has s.bits t)
 
-unfoldable pub intersected : TileBitset → TileBitset → SetAnswer
-intersected s u = set_answer (refusal (sets_checks s u)) (set_of s.size (λ t. has s.bits t && has u.bits t))
+unfoldable pub intersected : TileBitset → TileBitset → Answer TileBitset
+intersected s u = answered (refusal (sets_checks s u)) (set_of s.size (λ t. has s.bits t && has u.bits t))
 
 abbrev pub members_of : TileBitset → List ℕ
 members_of s = colours_of s.size (has s.bits)
 
-unfoldable pub emptiness : TileBitset → Verdict
-emptiness s = verdict_answer (refusal (set_checks s)) (eqb (length (members_of s)) 0)
+unfoldable pub emptiness : TileBitset → Answer Bool
+emptiness s = answered (refusal (set_checks s)) (eqb (length (members_of s)) 0)
 
-unfoldable pub members_counted : TileBitset → CountAnswer
-members_counted s = count_answer (refusal (set_checks s)) (length (members_of s))
+unfoldable pub members_counted : TileBitset → Answer ℕ
+members_counted s = answered (refusal (set_checks s)) (length (members_of s))
 
--- the members and, in the entries past them, 0; a refusal gives no member
-abbrev pub colour_list : ℕ → List ℕ → ColourList
-colour_list n l = record { refused = n; colours = l ++ replicate (max_colours - length l) 0; len = length l }
+-- the members and, in the entries past them, 0
+abbrev pub colour_list : List ℕ → ColourList
+colour_list l = record { colours = l ++ replicate (max_colours - length l) 0; len = length l }
 
-abbrev pub listed_or : ℕ → List ℕ → ColourList
-listed_or zero l = colour_list zero l
-listed_or (suc n) l = colour_list (suc n) []
-
-unfoldable pub members_listed : TileBitset → ColourList
-members_listed s = listed_or (refusal (set_checks s)) (members_of s)
+unfoldable pub members_listed : TileBitset → Answer ColourList
+members_listed s = answered (refusal (set_checks s)) (colour_list (members_of s))

@@ -5,11 +5,10 @@ use Rattle.base.specs.Tables.{tab}
 use Rattle.base.specs.Refusal.{Checks, ◌unless◌, ◌then◌, refusal, unless_refused}
 use Rattle.rules.specs.Bounds.{tile_cells, SHAPE, LENGTH, COUNT, CELL, ROOM}
 use Rattle.rules.specs.Tests.{sample_sides, has_length, whole_tiles, tiles_in, colour_count, none_above}
-use Rattle.rules.specs.Answers.{tile_answer, set_answer}
+use Rattle.rules.specs.Answers.{Answer, answered}
 use Rattle.rules.specs.Grid.{cell_at, entry_of, on_grid}
 use Rattle.rules.specs.Sets.{set_of}
-use Rattle.rules.specs.declared.TileNumber.{TileNumber}
-use Rattle.rules.specs.declared.SetAnswer.{SetAnswer}
+use Rattle.rules.specs.declared.TileBitset.{TileBitset}
 
 -- Cells past the sample are 0
 unfoldable pub sample_cell : List ℕ → ℕ → ℕ → ℕ → ℕ → ℕ
@@ -101,9 +100,9 @@ abbrev pub extraction_checks : List ℕ → ℕ → ℕ → ℕ → Bool → Boo
 extraction_checks sample rows cols count rotations reflections store =
     sample_checks sample rows cols count then room_check (extracted sample rows cols rotations reflections) store
 
-unfoldable pub extraction : List ℕ → ℕ → ℕ → ℕ → Bool → Bool → List ℕ → TileNumber
+unfoldable pub extraction : List ℕ → ℕ → ℕ → ℕ → Bool → Bool → List ℕ → Answer ℕ
 extraction sample rows cols count rotations reflections store =
-    tile_answer
+    answered
     (refusal (extraction_checks sample rows cols count rotations reflections store))
     (tiles_in (extracted sample rows cols rotations reflections))
 
@@ -120,11 +119,11 @@ membership_checks tile count =
     then CELL unless none_above tile count
 
 -- Membership is the set of a tile's colours, 0 left out
-unfoldable pub membership : List ℕ → ℕ → SetAnswer
+unfoldable pub membership : List ℕ → ℕ → Answer TileBitset
 membership tile count =
-    set_answer (refusal (membership_checks tile count))
+    answered (refusal (membership_checks tile count))
     (set_of count (λ t. some tile_cells (λ k. eqb t (get_or tile k 0))))
 
 -- how many tiles a list has
-unfoldable pub tiles_counted : List ℕ → TileNumber
-tiles_counted tiles = tile_answer (refusal (LENGTH unless whole_tiles tiles)) (tiles_in tiles)
+unfoldable pub tiles_counted : List ℕ → Answer ℕ
+tiles_counted tiles = answered (refusal (LENGTH unless whole_tiles tiles)) (tiles_in tiles)

@@ -5,12 +5,12 @@ use Rattle.base.specs.Tables.{tab}
 use Rattle.base.specs.Refusal.{Checks, ◌unless◌, ◌then◌, refusal, unless_refused}
 use Rattle.rules.specs.Bounds.{bare, SHAPE, LENGTH, PLACE}
 use Rattle.rules.specs.Tests.{board_sides, whole_tiles, tiles_in, offset_fits}
-use Rattle.rules.specs.Answers.{widen_answer}
+use Rattle.rules.specs.Answers.{Answer, answered}
 use Rattle.rules.specs.Places.{extension_by, new_rows, new_cols, copied_cell, copied}
 use Rattle.rules.specs.Grid.{Kind}
 use Rattle.rules.specs.Board.{Panel, Board, shape_of, weights_of, counts_of, plane_lengths, board_contents}
 use Rattle.rules.specs.declared.Pads.{Pads}
-use Rattle.rules.specs.declared.WidenAnswer.{WidenAnswer}
+use Rattle.rules.specs.declared.Offset.{Offset}
 
 -- the panel that the pads make: its sides are those of a copy, its offset is that of an extension
 abbrev pub wider : Panel → Pads → Panel
@@ -58,8 +58,8 @@ widen_checks j count b p lent =
     then PLACE unless offset_fits (wider j p).offset
 
 -- what a widening answers: the new offset
-abbrev pub widening : Panel → ℕ → Board → Pads → Board → WidenAnswer
-widening j count b p lent = widen_answer (refusal (widen_checks j count b p lent)) (wider j p).offset
+abbrev pub widening : Panel → ℕ → Board → Pads → Board → Answer Offset
+widening j count b p lent = answered (refusal (widen_checks j count b p lent)) (wider j p).offset
 
 -- what the lent planes hold then; a refused call changes nothing
 unfoldable pub after_widen : Panel → ℕ → Board → Pads → Board → Board

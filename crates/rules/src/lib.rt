@@ -1,6 +1,9 @@
 // The vocabulary of the port: the bounds of document 01 and the types of its calls. What they mean stands in specs/.
 #![tactic(auto)]
 
+ghost use Rattle.std.specs.Prelude.{◌≡◌};
+ghost use Rattle.rules.specs.Number.{number};
+
 // Document 01, "Bounds".
 pub const MAX_COLOURS: u32 = 30;
 
@@ -35,59 +38,54 @@ pub const MAX_BUDGET: usize = 4_096;
 
 pub const BARE_PIECE: u32 = 1;
 
-// Document 01, "Refusal numbers".
-pub const SHAPE: u8 = 1;
+// Document 01, "Refusal numbers": why a call is refused. As a number it is 01's.
+#[derive(Clone, Copy, Debug, PartialEq, Eq)]
+pub enum Refusal {
+    Shape = 1,
+    Length = 2,
+    Count = 3,
+    Cell = 4,
+    Number = 5,
+    Place = 6,
+    Type = 7,
+    Taken = 8,
+    Bare = 9,
+    Room = 10,
+}
 
-pub const LENGTH: u8 = 2;
+impl From<Refusal> for u8 {
+    ghost from_gives = { λ refusal n. n ≡ number refusal };
 
-pub const COUNT: u8 = 3;
-
-pub const CELL: u8 = 4;
-
-pub const NUMBER: u8 = 5;
-
-pub const PLACE: u8 = 6;
-
-pub const TYPE: u8 = 7;
-
-pub const TAKEN: u8 = 8;
-
-pub const BARE: u8 = 9;
-
-pub const ROOM: u8 = 10;
+    fn from(refusal: Refusal) -> u8 {
+        refusal as u8
+    }
+}
 
 // A wall coordinate, counted from the job's origin: row, then column.
-#[derive(Clone, Copy)]
+#[derive(Clone, Copy, Debug, PartialEq, Eq)]
 pub struct World(pub i32, pub i32);
 
 // A cell index, counted from the grid's corner: row, then column.
-#[derive(Clone, Copy)]
+#[derive(Clone, Copy, Debug, PartialEq, Eq)]
 pub struct Cell(pub usize, pub usize);
 
 // What leads from the one to the other: index = coordinate + offset.
-#[derive(Clone, Copy)]
+#[derive(Clone, Copy, Debug, PartialEq, Eq)]
 pub struct Offset(pub i32, pub i32);
 
 // The indices from the first number up to, not including, the second.
-#[derive(Clone, Copy)]
+#[derive(Clone, Copy, Debug, PartialEq, Eq)]
 pub struct Span(pub usize, pub usize);
 
 // Both corners belong to the box; one with min above max contains nothing.
-#[derive(Clone, Copy)]
+#[derive(Clone, Copy, Debug, PartialEq, Eq)]
 pub struct BoundingBox {
     pub min: World,
     pub max: World,
 }
 
-// The box of a call that can do without one.
-#[derive(Clone, Copy)]
-pub enum GenerationBounds {
-    Unbounded,
-    Within(BoundingBox),
-}
-
 // How many cells are added: left and right to the rows (the first coordinate), top and bottom to the columns.
-#[derive(Clone, Copy)]
+#[derive(Clone, Copy, Debug, PartialEq, Eq)]
 pub struct Pads {
     pub left: usize,
     pub right: usize,
@@ -95,7 +93,7 @@ pub struct Pads {
     pub bottom: usize,
 }
 
-#[derive(Clone, Copy)]
+#[derive(Clone, Copy, Debug, PartialEq, Eq)]
 pub struct ExtensionInfo {
     pub pads: Pads,
     pub offset: Offset,
@@ -103,14 +101,14 @@ pub struct ExtensionInfo {
 }
 
 // A set of the colours 1 to size: colour t is in it where bit t-1 of bits is set.
-#[derive(Clone, Copy)]
+#[derive(Clone, Copy, Debug, PartialEq, Eq)]
 pub struct TileBitset {
     pub bits: u32,
     pub size: u32,
 }
 
 // A place and a colour: in the answer of forced neighbours the one that fits there; in a queue it is not checked.
-#[derive(Clone, Copy)]
+#[derive(Clone, Copy, Debug, PartialEq, Eq)]
 pub struct ForcedPosition {
     pub coordinates: World,
     pub colour: u32,
@@ -131,129 +129,48 @@ pub struct ForcedPipeline {
     pub len: usize,
 }
 
-// Answers. A refusal carries its number alone.
+// What some calls answer where they are not refused. A refused call answers its `Refusal` alone.
 
-#[derive(Clone, Copy)]
-pub enum SpanAnswer {
-    Spans(Span, Span),
-    Refused(u8),
+// The spans of a radius round a place: of rows and of columns.
+#[derive(Clone, Copy, Debug, PartialEq, Eq)]
+pub struct Spans {
+    pub rows: Span,
+    pub cols: Span,
 }
 
-#[derive(Clone, Copy)]
-pub enum ExtensionAnswer {
-    Extension(ExtensionInfo),
-    Refused(u8),
+// How a forced run ended: with no entry left, with its budget spent, or with more places than its queue has room for.
+#[derive(Clone, Copy, Debug, PartialEq, Eq)]
+pub enum RunEnd {
+    Done = 0,
+    Spent = 1,
+    Full = 2,
 }
 
-#[derive(Clone, Copy)]
-pub enum Verdict {
-    Is(bool),
-    Refused(u8),
+// A forced run: how it ended, how many entries were taken and how many of them laid.
+#[derive(Clone, Copy, Debug, PartialEq, Eq)]
+pub struct RanOut {
+    pub end: RunEnd,
+    pub taken: usize,
+    pub laid: usize,
 }
 
-#[derive(Clone, Copy)]
-pub enum CountAnswer {
-    Is(usize),
-    Refused(u8),
-}
-
-#[derive(Clone, Copy)]
-pub enum TileNumber {
-    Tiles(usize),
-    Refused(u8),
-}
-
-#[derive(Clone, Copy)]
-pub enum SetAnswer {
-    Set(TileBitset),
-    Refused(u8),
-}
-
-#[derive(Clone, Copy)]
-pub enum Listing {
-    Colours(TileBitset),
-    Refused(u8),
-}
-
-#[derive(Clone, Copy)]
-pub enum FractionAnswer {
-    Is(f64),
-    Refused(u8),
-}
-
-#[derive(Clone, Copy)]
-pub enum DeadEnd {
-    At(Cell),
-    Nowhere,
-    Refused(u8),
-}
-
-#[derive(Clone, Copy)]
-pub enum Next {
-    Taken(ForcedPosition),
-    Nothing,
-    Refused(u8),
-}
-
-// A call that writes lent memory and answers no more than that it has.
-#[derive(Clone, Copy)]
-pub enum Written {
-    Done,
-    Refused(u8),
-}
-
-#[derive(Clone, Copy)]
-pub enum LayAnswer {
-    Laid,
-    Refused(u8),
-}
-
-#[derive(Clone, Copy)]
-pub enum LiftAnswer {
-    Lifted,
-    Refused(u8),
-}
-
-// The offset of the widened panel.
-#[derive(Clone, Copy)]
-pub enum WidenAnswer {
-    Widened(Offset),
-    Refused(u8),
-}
-
-// How a forced run ended: with no entry left, with its budget spent, or with more places than its queue has room for. The first number
-// is that of the entries taken, the second that of those laid.
-#[derive(Clone, Copy)]
-pub enum RunAnswer {
-    Done(usize, usize),
-    Spent(usize, usize),
-    Full(usize, usize),
-    Refused(u8),
-}
-
-// An enum holds no array, so these stand beside the number; refused is 0 where the call is accepted.
-
+// Colours ascending; entries past the length are 0.
 #[derive(Clone, Copy)]
 pub struct ColourList {
-    pub refused: u8,
     pub colours: [u8; MAX_COLOURS as usize],
     pub len: usize,
 }
 
-#[derive(Clone, Copy)]
-pub struct ForcedAnswer {
-    pub refused: u8,
-    pub found: ForcedPositions,
-}
-
+// What taking answers, and the queue that is handed back.
 #[derive(Clone, Copy)]
 pub struct Taken {
-    pub next: Next,
+    pub next: Result<Option<ForcedPosition>, Refusal>,
     pub queue: ForcedPipeline,
 }
 
+// What adding answers, and the queue that is handed back.
 #[derive(Clone, Copy)]
 pub struct Grown {
-    pub answer: Written,
+    pub answer: Result<(), Refusal>,
     pub queue: ForcedPipeline,
 }

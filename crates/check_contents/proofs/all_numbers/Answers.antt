@@ -6,13 +6,13 @@ use Rattle.rules.specs.Floats.{all_are}
 use borrow.Author.Rules.{rules}
 use Rattle.check_contents.proofs.all_numbers.Goals as goal
 
-pub loop-k-init : goal.loop-k-init
+pub loop-x-init : goal.loop-x-init
 unfolding every
-loop-k-init c = search rules
+loop-x-init c = search rules
 
-pub loop-k-preserved : goal.loop-k-preserved
-loop-k-preserved c = (search rules, every-turn _ c.before.before.before.before.loop-k.invariant.1 c.before.is_number.ensures c.and_too-fine.ensures)
+pub loop-x-preserved : goal.loop-x-preserved
+loop-x-preserved c = every-turn _ c.loop-x.invariant c.is_number.ensures c.and_too-fine.ensures
 
 pub returns : goal.returns
 unfolding all_are
-returns c = every-done _ c.before.loop-k.invariant.0 c.loop-k-test.false c.before.loop-k.invariant.1
+returns c = every-done _ c.loop-x.auto.x-index-end c.loop-x-test.false c.loop-x.invariant

@@ -12,15 +12,15 @@ use native.Mathlib.Omega.{arith}
 use borrow.Author.Rules.{rules}
 use Rattle.check_contents.proofs.no_byte_above.Goals as goal
 
-pub loop-k-init : goal.loop-k-init
+pub loop-cell-init : goal.loop-cell-init
 unfolding every
-loop-k-init c = search rules
+loop-cell-init c = search rules
 
-pub loop-k-preserved : goal.loop-k-preserved
-loop-k-preserved c =
+pub loop-cell-preserved : goal.loop-cell-preserved
+loop-cell-preserved c =
     let byte : (i : ℕ) → get_or c.args.plane.now i 0 < 256 = λ i. omega (arith, c.type_inv.plane i) in
-    (search rules, every-turn _ c.before.before.before.before.loop-k.invariant.1 (c.before.byte_up_to.ensures ∙ c.before.before.before.before.before.byte_limit-limit.ensures _ (byte _)) c.and_too-fine.ensures)
+    every-turn _ c.loop-cell.invariant (c.byte_up_to.ensures ∙ c.byte_limit-limit.ensures _ (byte _)) c.and_too-fine.ensures
 
 pub returns : goal.returns
 unfolding none_above
-returns c = every-done _ c.before.loop-k.invariant.0 c.loop-k-test.false c.before.loop-k.invariant.1
+returns c = every-done _ c.loop-cell.auto.cell-index-end c.loop-cell-test.false c.loop-cell.invariant

@@ -7,13 +7,13 @@ use Rattle.rules.specs.Tests.{none_above}
 use borrow.Author.Rules.{rules}
 use Rattle.check_contents.proofs.no_word_above.Goals as goal
 
-pub loop-k-init : goal.loop-k-init
+pub loop-cell-init : goal.loop-cell-init
 unfolding every
-loop-k-init c = search rules
+loop-cell-init c = search rules
 
-pub loop-k-preserved : goal.loop-k-preserved
-loop-k-preserved c = (search rules, every-turn _ c.before.before.before.loop-k.invariant.1 refl c.and_too-fine.ensures)
+pub loop-cell-preserved : goal.loop-cell-preserved
+loop-cell-preserved c = every-turn _ c.loop-cell.invariant refl c.and_too-fine.ensures
 
 pub returns : goal.returns
 unfolding none_above
-returns c = every-done _ c.before.loop-k.invariant.0 c.loop-k-test.false c.before.loop-k.invariant.1
+returns c = every-done _ c.loop-cell.auto.cell-index-end c.loop-cell-test.false c.loop-cell.invariant

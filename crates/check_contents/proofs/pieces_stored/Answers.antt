@@ -9,15 +9,15 @@ use borrow.Author.Rules.{rules}
 use Rattle.check_contents.proofs.pieces_stored.Goals as goal
 
 pub overflow_add-most : goal.overflow_add-most
-overflow_add-most c = omega (arith, count_most _ c.before.requires)
+overflow_add-most c = omega (arith, count_most _ c.requires)
 
-pub loop-k-init : goal.loop-k-init
+pub loop-piece-init : goal.loop-piece-init
 unfolding every
-loop-k-init c = search rules
+loop-piece-init c = search rules
 
-pub loop-k-preserved : goal.loop-k-preserved
-loop-k-preserved c = (search rules, every-turn _ c.before.before.before.before.loop-k.invariant.1 c.before.piece_stored.ensures c.and_too-fine.ensures)
+pub loop-piece-preserved : goal.loop-piece-preserved
+loop-piece-preserved c = every-turn _ c.loop-piece.invariant c.piece_stored.ensures c.and_too-fine.ensures
 
 pub returns : goal.returns
 unfolding pieces_stored
-returns c = every-done _ c.before.loop-k.invariant.0 c.loop-k-test.false c.before.loop-k.invariant.1
+returns c = every-done _ c.loop-piece.auto.piece-index-end c.loop-piece-test.false c.loop-piece.invariant
