@@ -3,11 +3,11 @@
 #![tactic(auto)]
 
 ghost use Rattle.std.specs.Prelude.{◌≡◌, true};
-ghost use Rattle.base.specs.Refusal.{refusal};
+ghost use Rattle.rules.specs.Answers.{checked};
 ghost use Rattle.rules.specs.Tests.{colour_count};
 ghost use Rattle.rules.specs.Sets.{marks_within, set_checks, sets_checks, empty_set, full_set, inserted, contained, intersected, emptiness, members_counted, members_listed};
 
-use rules::{ColourList, CountAnswer, SetAnswer, TileBitset, Verdict};
+use rules::{ColourList, Refusal, TileBitset};
 
 fn marks_within(set: TileBitset) -> bool
     requires { colour_count set.size ≡ true }
@@ -16,131 +16,116 @@ fn marks_within(set: TileBitset) -> bool
     set.bits < (1u32 << set.size)
 }
 
-fn set_refusal(set: TileBitset) -> u8
-    ensures { result ≡ refusal (set_checks set) }
+fn check_set(set: TileBitset) -> Result<(), Refusal>
+    ensures { result ≡ checked (set_checks set) }
 {
     if !check_sizes::colour_count(set.size) {
-        return rules::COUNT;
+        return Err(Refusal::Count);
     }
     if !marks_within(set) {
-        return rules::CELL;
+        return Err(Refusal::Cell);
     }
-    0
+    Ok(())
 }
 
-fn sets_refusal(set: TileBitset, other: TileBitset) -> u8
-    ensures { result ≡ refusal (sets_checks set other) }
+fn check_sets(set: TileBitset, other: TileBitset) -> Result<(), Refusal>
+    ensures { result ≡ checked (sets_checks set other) }
 {
     if !check_sizes::colour_count(set.size) {
-        return rules::COUNT;
+        return Err(Refusal::Count);
     }
     if set.size != other.size {
-        return rules::COUNT;
+        return Err(Refusal::Count);
     }
     if !marks_within(set) {
-        return rules::CELL;
+        return Err(Refusal::Cell);
     }
     if !marks_within(other) {
-        return rules::CELL;
+        return Err(Refusal::Cell);
     }
-    0
+    Ok(())
 }
 
-pub fn new(size: u32) -> SetAnswer
+pub fn new(size: u32) -> Result<TileBitset, Refusal>
     ensures { result ≡ empty_set size }
 {
     if check_sizes::colour_count(size) {
-        SetAnswer::Set(TileBitset {
+        Ok(TileBitset {
             bits: 0,
             size: size,
         })
     } else {
-        SetAnswer::Refused(rules::COUNT)
+        Err(Refusal::Count)
     }
 }
 
-pub fn all(size: u32) -> SetAnswer
+pub fn all(size: u32) -> Result<TileBitset, Refusal>
     ensures { result ≡ full_set size }
 {
     if !check_sizes::colour_count(size) {
-        return SetAnswer::Refused(rules::COUNT);
+        return Err(Refusal::Count);
     }
     let bits = bitset_colours::all_colours(size);
-    SetAnswer::Set(TileBitset {
+    Ok(TileBitset {
         bits: bits,
         size: size,
     })
 }
 
 // 0 and a colour past the size are left out, as in the text.
-pub fn insert(set: TileBitset, tile: u32) -> SetAnswer
+pub fn insert(set: TileBitset, tile: u32) -> Result<TileBitset, Refusal>
     ensures { result ≡ inserted set tile }
 {
-    let refused = set_refusal(set);
-    if refused != 0 {
-        return SetAnswer::Refused(refused);
-    }
+    check_set(set)?;
     if set.size < tile {
-        return SetAnswer::Set(set);
+        return Ok(set);
     }
     let bits = bitset_colours::with_colour(set.bits, tile);
-    SetAnswer::Set(TileBitset {
+    Ok(TileBitset {
         bits: bits,
         size: set.size,
     })
 }
 
-pub fn contains(set: TileBitset, tile: u32) -> Verdict
+pub fn contains(set: TileBitset, tile: u32) -> Result<bool, Refusal>
     ensures { result ≡ contained set tile }
 {
-    let refused = set_refusal(set);
-    if refused != 0 {
-        return Verdict::Refused(refused);
-    }
+    check_set(set)?;
     if set.size < tile {
-        return Verdict::Is(false);
+        return Ok(false);
     }
-    Verdict::Is(bitset_colours::has_colour(set.bits, tile))
+    Ok(bitset_colours::has_colour(set.bits, tile))
 }
 
-pub fn intersection(set: TileBitset, other: TileBitset) -> SetAnswer
+pub fn intersection(set: TileBitset, other: TileBitset) -> Result<TileBitset, Refusal>
     ensures { result ≡ intersected set other }
 {
-    let refused = sets_refusal(set, other);
-    if refused != 0 {
-        return SetAnswer::Refused(refused);
-    }
+    check_sets(set, other)?;
     let bits = bitset_colours::common_colours(set.bits, other.bits);
-    SetAnswer::Set(TileBitset {
+    Ok(TileBitset {
         bits: bits,
         size: set.size,
     })
 }
 
-pub fn is_empty(set: TileBitset) -> Verdict
+pub fn is_empty(set: TileBitset) -> Result<bool, Refusal>
     ensures { result ≡ emptiness set }
 {
-    let refused = set_refusal(set);
-    if refused != 0 {
-        return Verdict::Refused(refused);
-    }
-    Verdict::Is(bitset_colours::no_colour(set.bits))
+    check_set(set)?;
+    Ok(bitset_colours::no_colour(set.bits))
 }
 
-pub fn count(set: TileBitset) -> CountAnswer
+pub fn count(set: TileBitset) -> Result<usize, Refusal>
     ensures { result ≡ members_counted set }
 {
-    let refused = set_refusal(set);
-    if refused != 0 {
-        return CountAnswer::Refused(refused);
-    }
-    CountAnswer::Is(bitset_colours::colours_in(set.bits) as usize)
+    check_set(set)?;
+    Ok(bitset_colours::colours_in(set.bits) as usize)
 }
 
 pub fn to_vec(set: TileBitset) -> ColourList
     ensures { result ≡ members_listed set }
 {
-    let refused = set_refusal(set);
+    let refused = check_set(set);
     if refused != 0 {
         return ColourList {
             refused: refused,

@@ -21,8 +21,6 @@ use Rattle.rules.specs.declared.World.{World}
 use Rattle.rules.specs.declared.Offset.{Offset}
 use Rattle.rules.specs.declared.Cell.{Cell}
 use Rattle.rules.specs.declared.Span.{Span}
-use Rattle.rules.specs.declared.SpanAnswer.{SpanAnswer}
-use Rattle.rules.specs.declared.SpanAnswer.TheVariants.{Spans}
 use Rattle.check_sizes.proofs.Sides.{none_above-entry, count_most}
 use Rattle.places.proofs.Indices.{placed}
 use Rattle.fit_windows.proofs.Accepted.{ready-from}
@@ -30,13 +28,15 @@ use Rattle.board_near.specs.Near.{near_spans}
 use Rattle.board_near.proofs.Leaning.{on-plane}
 use Rattle.board_near.proofs.Placing.{place-passes, nearby}
 use Rattle.board_moves.specs.Movable.{Movable}
+use Rattle.rules.specs.Answers.{Answer}
+use Rattle.rules.specs.declared.Spans.{Spans}
 
 module _ (pieces weights counts : List ℕ) (rows cols : ℕ) (tiles : List ℕ) (count : ℕ) (o : Offset)
     (e : 0 ≡ refusal (board_checks (panel rows cols tiles o) count (board pieces weights counts))) where
   passed : Passes (board_checks (panel rows cols tiles o) count (board pieces weights counts))
   passed = all_pass (board_checks (panel rows cols tiles o) count (board pieces weights counts)) refl (sym e)
 
-  pub movable : (w : World) (a : SpanAnswer) (rowspan colspan : Span) → a ≡ Spans rowspan colspan → a ≡ near_spans rows cols w o
+  pub movable : (w : World) (a : Answer Spans) (rowspan colspan : Span) → a ≡ Spans rowspan colspan → a ≡ near_spans rows cols w o
       → (cell : Cell) → cell ≡ cell_of w o → Movable (board pieces weights counts) rows cols tiles cell rowspan colspan
   movable w a rowspan colspan z n cell q =
       let h = passed in

@@ -6,10 +6,10 @@ ghost use Rattle.rules.specs.Promises.{board_before, board_after, panel, Lays, L
 
 use board_moves::{lay_at, lift_at};
 use board_near::near_spans;
-use board_planes::{contents_refused, laying_refused, lengths_refused, lifting_refused};
+use board_planes::{check_cells, check_laying, check_lengths, check_lifting};
 use check_sizes::tile_number;
 use places::cell_of;
-use rules::{LayAnswer, LiftAnswer, Offset, SpanAnswer, TileNumber, World};
+use rules::{Offset, Refusal, World};
 
 // Stores the piece, adds 3 to weights at distance 0 or 1 and 1 at distance 2, and recounts.
 pub fn lay(
@@ -23,33 +23,24 @@ pub fn lay(
     place: World,
     offset: Offset,
     colour: u32,
-) -> LayAnswer
+) -> Result<(), Refusal>
     ensures { Lays (panel rows cols tiles.now offset) count place colour
         (board_before pieces weights counts) result (board_after pieces weights counts) }
 {
-    let no = lengths_refused(pieces, weights, counts, rows, cols);
-    if no != 0 {
-        return LayAnswer::Refused(no);
-    }
-    let TileNumber::Tiles(n) = tile_number(tiles) else {
-        return LayAnswer::Refused(rules::LENGTH);
+    check_lengths(pieces, weights, counts, rows, cols)?;
+    let Ok(n) = tile_number(tiles) else {
+        return Err(Refusal::Length);
     };
-    let bad = contents_refused(pieces, weights, counts, tiles, count, n);
-    if bad != 0 {
-        return LayAnswer::Refused(bad);
-    }
-    let SpanAnswer::Spans(rowspan, colspan) = near_spans(rows, cols, place, offset) else {
-        return LayAnswer::Refused(rules::PLACE);
+    check_cells(pieces, weights, counts, tiles, count, n)?;
+    let Ok(spans) = near_spans(rows, cols, place, offset) else {
+        return Err(Refusal::Place);
     };
     let cell = cell_of(place, offset);
-    let wrong = laying_refused(pieces, cols, cell, count, colour);
-    if wrong != 0 {
-        return LayAnswer::Refused(wrong);
-    }
+    check_laying(pieces, cols, cell, count, colour)?;
     lay_at(
-        pieces, weights, counts, rows, cols, tiles, cell, rowspan, colspan, colour,
+        pieces, weights, counts, rows, cols, tiles, cell, spans, colour,
     );
-    LayAnswer::Laid
+    Ok(())
 }
 
 // Stores bare, subtracts what lay added, stopping at 0, and recounts.
@@ -63,31 +54,22 @@ pub fn lift(
     count: u32,
     place: World,
     offset: Offset,
-) -> LiftAnswer
+) -> Result<(), Refusal>
     ensures { Lifts (panel rows cols tiles.now offset) count place
         (board_before pieces weights counts) result (board_after pieces weights counts) }
 {
-    let no = lengths_refused(pieces, weights, counts, rows, cols);
-    if no != 0 {
-        return LiftAnswer::Refused(no);
-    }
-    let TileNumber::Tiles(n) = tile_number(tiles) else {
-        return LiftAnswer::Refused(rules::LENGTH);
+    check_lengths(pieces, weights, counts, rows, cols)?;
+    let Ok(n) = tile_number(tiles) else {
+        return Err(Refusal::Length);
     };
-    let bad = contents_refused(pieces, weights, counts, tiles, count, n);
-    if bad != 0 {
-        return LiftAnswer::Refused(bad);
-    }
-    let SpanAnswer::Spans(rowspan, colspan) = near_spans(rows, cols, place, offset) else {
-        return LiftAnswer::Refused(rules::PLACE);
+    check_cells(pieces, weights, counts, tiles, count, n)?;
+    let Ok(spans) = near_spans(rows, cols, place, offset) else {
+        return Err(Refusal::Place);
     };
     let cell = cell_of(place, offset);
-    let wrong = lifting_refused(pieces, cols, cell);
-    if wrong != 0 {
-        return LiftAnswer::Refused(wrong);
-    }
+    check_lifting(pieces, cols, cell)?;
     lift_at(
-        pieces, weights, counts, rows, cols, tiles, cell, rowspan, colspan,
+        pieces, weights, counts, rows, cols, tiles, cell, spans,
     );
-    LiftAnswer::Lifted
+    Ok(())
 }

@@ -6,9 +6,10 @@ use Rattle.base.proofs.Chain.{gives-coincide}
 use Rattle.rules.specs.Board.{Panel, Board}
 use Rattle.rules.specs.Promises.{RunsOut}
 use Rattle.rules.specs.declared.World.{World}
-use Rattle.rules.specs.declared.GenerationBounds.{GenerationBounds}
-use Rattle.rules.specs.declared.RunAnswer.{RunAnswer}
+use Rattle.rules.specs.Answers.{Answer}
+use Rattle.rules.specs.declared.BoundingBox.{BoundingBox}
+use Rattle.rules.specs.declared.RanOut.{RanOut}
 
-pub forced-run-coincide : (j : Panel) (count : ℕ) (w : World) (bounds : GenerationBounds) (budget : ℕ) (old : Board) {a c : RunAnswer} {l m : Board}
+pub forced-run-coincide : (j : Panel) (count : ℕ) (w : World) (bounds : Option BoundingBox) (budget : ℕ) (old : Board) {a c : Answer RanOut} {l m : Board}
     → RunsOut j count w bounds budget old a l → RunsOut j count w bounds budget old c m → (a ≡ c) × (l ≡ m)
 forced-run-coincide j count w bounds budget old p q = gives-coincide p q

@@ -2,21 +2,21 @@
 #![tactic(auto)]
 
 ghost use Rattle.std.specs.Prelude.{◌≡◌};
-ghost use Rattle.base.specs.Refusal.{refusal};
+ghost use Rattle.rules.specs.Answers.{checked};
 ghost use Rattle.rules.specs.Board.{board_checks};
 ghost use Rattle.rules.specs.ForcedRun.{run_checks};
 ghost use Rattle.rules.specs.declared.Offset.{Offset};
 ghost use Rattle.rules.specs.Promises.{board, board_before, board_after, panel, RunsOut};
 
-use board_planes::{contents_refused, lengths_refused};
+use board_planes::{check_cells, check_lengths};
 use board_run::run_out;
 use check_sizes::tile_number;
 use fit_forced::bounds_fit;
-use places::place_refused;
-use rules::{GenerationBounds, Offset, RunAnswer, TileNumber, World};
+use places::check_place;
+use rules::{BoundingBox, Offset, RanOut, Refusal, World};
 
-// The refusal of the planes and tiles, 0 where there is none.
-fn board_refused(
+// The checks of the planes and tiles.
+fn check_board(
     pieces: &[u32],
     weights: &[u32],
     counts: &[u32],
@@ -24,21 +24,18 @@ fn board_refused(
     cols: usize,
     tiles: &[u8],
     count: u32,
-) -> u8
-    ensures { (offset : Offset) → result ≡ refusal (board_checks (panel rows cols tiles.now offset) count (board pieces.now weights.now counts.now)) }
+) -> Result<(), Refusal>
+    ensures { (offset : Offset) → result ≡ checked (board_checks (panel rows cols tiles.now offset) count (board pieces.now weights.now counts.now)) }
 {
-    let no = lengths_refused(pieces, weights, counts, rows, cols);
-    if no != 0 {
-        return no;
-    }
-    let TileNumber::Tiles(n) = tile_number(tiles) else {
-        return rules::LENGTH;
+    check_lengths(pieces, weights, counts, rows, cols)?;
+    let Ok(n) = tile_number(tiles) else {
+        return Err(Refusal::Length);
     };
-    contents_refused(pieces, weights, counts, tiles, count, n)
+    check_cells(pieces, weights, counts, tiles, count, n)
 }
 
-// The refusal of the call's input, 0 where there is none.
-fn run_refused(
+// The checks of the call's input.
+fn check_run(
     pieces: &[u32],
     weights: &[u32],
     counts: &[u32],
@@ -48,26 +45,20 @@ fn run_refused(
     count: u32,
     place: World,
     offset: Offset,
-    bounds: GenerationBounds,
+    bounds: Option<BoundingBox>,
     budget: usize,
-) -> u8
-    ensures { result ≡ refusal (run_checks (panel rows cols tiles.now offset) count (board pieces.now weights.now counts.now) place bounds budget) }
+) -> Result<(), Refusal>
+    ensures { result ≡ checked (run_checks (panel rows cols tiles.now offset) count (board pieces.now weights.now counts.now) place bounds budget) }
 {
     if budget > rules::MAX_BUDGET {
-        return rules::SHAPE;
+        return Err(Refusal::Shape);
     }
-    let no = board_refused(pieces, weights, counts, rows, cols, tiles, count);
-    if no != 0 {
-        return no;
-    }
-    let misplaced = place_refused(rows, cols, place, offset);
-    if misplaced != 0 {
-        return misplaced;
-    }
+    check_board(pieces, weights, counts, rows, cols, tiles, count)?;
+    check_place(rows, cols, place, offset)?;
     if !bounds_fit(bounds) {
-        return rules::PLACE;
+        return Err(Refusal::Place);
     }
-    0
+    Ok(())
 }
 
 // Lays what is forced round a place, and what is forced round each piece laid so, until nothing waits, as many entries were taken as the
@@ -82,18 +73,15 @@ pub fn forced_run(
     count: u32,
     place: World,
     offset: Offset,
-    bounds: GenerationBounds,
+    bounds: Option<BoundingBox>,
     budget: usize,
-) -> RunAnswer
+) -> Result<RanOut, Refusal>
     ensures { RunsOut (panel rows cols tiles.now offset) count place bounds budget
         (board_before pieces weights counts) result (board_after pieces weights counts) }
 {
-    let refused = run_refused(
+    check_run(
         pieces, weights, counts, rows, cols, tiles, count, place, offset, bounds, budget,
-    );
-    if refused != 0 {
-        return RunAnswer::Refused(refused);
-    }
+    )?;
     run_out(
         pieces, weights, counts, rows, cols, tiles, count, place, offset, bounds, budget,
     )

@@ -3,9 +3,9 @@
 
 ghost use Rattle.rules.specs.Promises.{board_before, board_after, Freshens};
 
-use board_planes::{fill, lengths_refused};
+use board_planes::{fill, check_lengths};
 use check_sizes::tile_number_fits;
-use rules::Written;
+use rules::Refusal;
 
 // Pieces 1, weights 1, counts the number of tiles.
 pub fn fresh(
@@ -15,18 +15,15 @@ pub fn fresh(
     rows: usize,
     cols: usize,
     tiles: usize,
-) -> Written
+) -> Result<(), Refusal>
     ensures { Freshens rows cols tiles (board_before pieces weights counts) result (board_after pieces weights counts) }
 {
-    let no = lengths_refused(pieces, weights, counts, rows, cols);
-    if no != 0 {
-        return Written::Refused(no);
-    }
+    check_lengths(pieces, weights, counts, rows, cols)?;
     if !tile_number_fits(tiles) {
-        return Written::Refused(rules::LENGTH);
+        return Err(Refusal::Length);
     }
     fill(pieces, rules::BARE_PIECE);
     fill(weights, 1);
     fill(counts, tiles as u32);
-    Written::Done
+    Ok(())
 }

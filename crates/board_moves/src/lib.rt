@@ -10,7 +10,7 @@ ghost use Rattle.board_moves.specs.Movable.{Movable};
 
 use board_recount::recount_near;
 use board_weights::{lower_near, raise_near};
-use rules::{Cell, Span};
+use rules::{Cell, Spans};
 
 pub fn lay_at(
     pieces: &mut [u32],
@@ -20,17 +20,16 @@ pub fn lay_at(
     cols: usize,
     tiles: &[u8],
     cell: Cell,
-    rowspan: Span,
-    colspan: Span,
+    spans: Spans,
     colour: u32,
 )
-    requires { (Movable (board pieces.old weights.old counts.old) rows cols tiles.now cell rowspan colspan) × (colour ≤ max_colours) }
+    requires { (Movable (board pieces.old weights.old counts.old) rows cols tiles.now cell spans.rows spans.cols) × (colour ≤ max_colours) }
     ensures { board_after pieces weights counts ≡ laid (flat rows cols) tiles.now (board_before pieces weights counts) (entry_of cols cell) colour }
 {
     let k = cell.0 * cols + cell.1;
     pieces[k] = colour + 1;
-    raise_near(weights, rows, cols, cell, rowspan, colspan);
-    recount_near(counts, pieces, rows, cols, tiles, rowspan, colspan);
+    raise_near(weights, rows, cols, cell, spans);
+    recount_near(counts, pieces, rows, cols, tiles, spans);
 }
 
 pub fn lift_at(
@@ -41,14 +40,13 @@ pub fn lift_at(
     cols: usize,
     tiles: &[u8],
     cell: Cell,
-    rowspan: Span,
-    colspan: Span,
+    spans: Spans,
 )
-    requires { Movable (board pieces.old weights.old counts.old) rows cols tiles.now cell rowspan colspan }
+    requires { Movable (board pieces.old weights.old counts.old) rows cols tiles.now cell spans.rows spans.cols }
     ensures { board_after pieces weights counts ≡ lifted (flat rows cols) tiles.now (board_before pieces weights counts) (entry_of cols cell) }
 {
     let k = cell.0 * cols + cell.1;
     pieces[k] = rules::BARE_PIECE;
-    lower_near(weights, rows, cols, cell, rowspan, colspan);
-    recount_near(counts, pieces, rows, cols, tiles, rowspan, colspan);
+    lower_near(weights, rows, cols, cell, spans);
+    recount_near(counts, pieces, rows, cols, tiles, spans);
 }

@@ -9,19 +9,18 @@ use Rattle.base.specs.Refusal.{refusal}
 use Rattle.base.proofs.Bools.{by-test}
 use Rattle.rules.specs.Bounds.{PLACE}
 use Rattle.rules.specs.Tests.{on_wall, offset_fits, on_board}
-use Rattle.rules.specs.Answers.{span_answer}
+use Rattle.rules.specs.Answers.{Answer, span_answer}
 use Rattle.rules.specs.Places.{cell_of, span_of, region_spans}
 use Rattle.rules.specs.Fit.{place_checks}
 use Rattle.rules.specs.declared.World.{World}
 use Rattle.rules.specs.declared.Offset.{Offset}
 use Rattle.rules.specs.declared.Span.{Span}
-use Rattle.rules.specs.declared.SpanAnswer.{SpanAnswer}
-use Rattle.rules.specs.declared.SpanAnswer.TheVariants.{Spans, Refused}
 use Rattle.places.proofs.Indices.{placed, row-span, col-span}
 use Rattle.board_near.specs.Near.{Nearby, end_clipped, near_spans}
+use Rattle.rules.specs.declared.Spans.{Spans}
 
 -- two cases of an answer are never equal
-apart-answers : {A : Type 0} (n : ℕ) (r c : Span) (a : SpanAnswer) → a ≡ Spans r c → a ≡ Refused n → A
+apart-answers : {A : Type 0} (n : ℕ) (r c : Span) (a : Answer Spans) → a ≡ Spans r c → a ≡ Refused n → A
 apart-answers n r c a p q = absurd (let z : ◌≡◌ {A = ℕ} 0 1 = cc in omega arith)
 
 module _ (rows cols : ℕ) (w : World) (o : Offset) where
@@ -49,7 +48,7 @@ module _ (rows cols : ℕ) (w : World) (o : Offset) where
   pub no-board : on_board rows cols w o ≡ false → Refused PLACE ≡ near_spans rows cols w o
   no-board r = place-refused (off-board r)
 
-  pub no-spans : (a : SpanAnswer) (n : ℕ) → a ≡ Refused n → a ≡ region_spans o w 2 → Refused PLACE ≡ near_spans rows cols w o
+  pub no-spans : (a : Answer Spans) (n : ℕ) → a ≡ Refused n → a ≡ region_spans o w 2 → Refused PLACE ≡ near_spans rows cols w o
   unfolding region_spans near_spans refusal
   no-spans a n z e =
       by-test (on_wall w)
@@ -58,7 +57,7 @@ module _ (rows cols : ℕ) (w : World) (o : Offset) where
       (λ q. rw (p, q)))
       (λ p. rw p)
 
-  pub some-spans : (a : SpanAnswer) (d c : Span) → a ≡ Spans d c → a ≡ region_spans o w 2 → on_board rows cols w o ≡ true
+  pub some-spans : (a : Answer Spans) (d c : Span) → a ≡ Spans d c → a ≡ region_spans o w 2 → on_board rows cols w o ≡ true
       → Spans (end_clipped rows d) (end_clipped cols c) ≡ near_spans rows cols w o
   unfolding region_spans near_spans refusal
   some-spans a d c z e r =
@@ -72,7 +71,7 @@ module _ (rows cols : ℕ) (w : World) (o : Offset) where
       (λ p. apart-answers PLACE d c a z (e ∙ rw p))
 
   -- what a caller learns of each way, for `search` beside `chain`
-  pub place-stops : (a : SpanAnswer) (n : ℕ) → a ≡ Refused n → a ≡ near_spans rows cols w o → PLACE ≡ refusal (place_checks rows cols w o)
+  pub place-stops : (a : Answer Spans) (n : ℕ) → a ≡ Refused n → a ≡ near_spans rows cols w o → PLACE ≡ refusal (place_checks rows cols w o)
   unfolding near_spans
   place-stops a n z e = sym (at (refusal (place_checks rows cols w o)) (λ m p. place_is m p) refl e)
     where
@@ -82,7 +81,7 @@ module _ (rows cols : ℕ) (w : World) (o : Offset) where
       at zero f p q = apart-answers n _ _ a q z
       at (suc m) f p q = f m p
 
-  pub place-passes : (a : SpanAnswer) (d c : Span) → a ≡ Spans d c → a ≡ near_spans rows cols w o → 0 ≡ refusal (place_checks rows cols w o)
+  pub place-passes : (a : Answer Spans) (d c : Span) → a ≡ Spans d c → a ≡ near_spans rows cols w o → 0 ≡ refusal (place_checks rows cols w o)
   unfolding near_spans
   place-passes a d c z e = sym (at (refusal (place_checks rows cols w o)) e)
     where
@@ -90,7 +89,7 @@ module _ (rows cols : ℕ) (w : World) (o : Offset) where
       at zero q = refl
       at (suc m) q = apart-answers (suc m) d c a z q
 
-  pub nearby : (a : SpanAnswer) (d c : Span) → a ≡ Spans d c → a ≡ near_spans rows cols w o → Nearby rows cols (cell_of w o) d c
+  pub nearby : (a : Answer Spans) (d c : Span) → a ≡ Spans d c → a ≡ near_spans rows cols w o → Nearby rows cols (cell_of w o) d c
   unfolding near_spans
   nearby a d c z e =
       let h : on_board rows cols w o ≡ true = (placed rows cols w o (sym (place-passes a d c z e))).boarded in

@@ -3,14 +3,14 @@
 use Rattle.std.specs.Prelude.{ℕ, ◌+◌, ◌-◌, ◌*◌, ◌<◌, ◌≤◌, min, ◌≡◌, List, ◌+ℤ◌, length}
 use Rattle.base.specs.Refusal.{refusal}
 use Rattle.rules.specs.Bounds.{max_board_side}
-use Rattle.rules.specs.Answers.{span_answer}
+use Rattle.rules.specs.Answers.{Answer, span_answer}
 use Rattle.rules.specs.Places.{span_of}
 use Rattle.rules.specs.Fit.{place_checks}
 use Rattle.rules.specs.declared.World.{World}
 use Rattle.rules.specs.declared.Offset.{Offset}
-use Rattle.rules.specs.declared.SpanAnswer.{SpanAnswer}
 use Rattle.rules.specs.declared.Cell.{Cell}
 use Rattle.rules.specs.declared.Span.{Span}
+use Rattle.rules.specs.declared.Spans.{Spans}
 
 -- a plane of a board in bounds, and a cell on it
 pub record OnPlane (plane : List ℕ) (rows cols : ℕ) (cell : Cell) : Type 0 where
@@ -31,7 +31,7 @@ pub record Nearby (rows cols : ℕ) (cell : Cell) (rowspan colspan : Span) : Typ
 abbrev pub end_clipped : ℕ → Span → Span
 end_clipped side s = record { 0 = s.0; 1 = min s.1 side }
 
-unfoldable pub near_spans : ℕ → ℕ → World → Offset → SpanAnswer
+unfoldable pub near_spans : ℕ → ℕ → World → Offset → Answer Spans
 near_spans rows cols place offset =
     span_answer
     (refusal (place_checks rows cols place offset))

@@ -7,7 +7,7 @@ ghost use Rattle.board_near.specs.Near.{end_clipped, near_spans};
 
 use place_spans::get_region_spans;
 use places::on_board;
-use rules::{Cell, Offset, Span, SpanAnswer, World};
+use rules::{Cell, Offset, Refusal, Span, Spans, World};
 
 fn gap_of(a: usize, b: usize) -> usize
     ensures { result ≡ gap a b }
@@ -44,14 +44,14 @@ fn clipped(span: Span, side: usize) -> Span
 }
 
 // The spans of radius 2 round a place on the board, their ends clipped to its sides; PLACE where it is off the board or out of bounds.
-pub fn near_spans(rows: usize, cols: usize, place: World, offset: Offset) -> SpanAnswer
+pub fn near_spans(rows: usize, cols: usize, place: World, offset: Offset) -> Result<Spans, Refusal>
     ensures { result ≡ near_spans rows cols place offset }
 {
-    let SpanAnswer::Spans(rowspan, colspan) = get_region_spans(offset, place, 2) else {
-        return SpanAnswer::Refused(rules::PLACE);
+    let Ok(spans) = get_region_spans(offset, place, 2) else {
+        return Err(Refusal::Place);
     };
     if !on_board(rows, cols, place, offset) {
-        return SpanAnswer::Refused(rules::PLACE);
+        return Err(Refusal::Place);
     }
-    SpanAnswer::Spans(clipped(rowspan, rows), clipped(colspan, cols))
+    SpanAnswer::Spans(clipped(spans.rows, rows), clipped(spans.cols, cols))
 }

@@ -10,14 +10,13 @@ use Rattle.rules.specs.Tests.{tiles_in}
 use Rattle.rules.specs.Tiles.{tiles_counted}
 use Rattle.rules.specs.Board.{Board, plane_lengths, board_contents}
 use Rattle.rules.specs.Promises.{board}
-use Rattle.rules.specs.declared.TileNumber.{TileNumber}
-use Rattle.rules.specs.declared.TileNumber.TheVariants.{Tiles}
 use Rattle.check_sizes.proofs.Tiled.{so-many}
+use Rattle.rules.specs.Answers.{Answer}
 
 pub planes-as : {r : ℕ} (pieces weights counts : List ℕ) (m n : ℕ) → r ≡ refusal (plane_lengths m (board pieces weights counts)) → m ≡ n
     → r ≡ refusal (plane_lengths n (board pieces weights counts))
 planes-as pieces weights counts m n e q = e ∙ ap (λ (k : ℕ). refusal (plane_lengths k (board pieces weights counts))) q
 
-pub contents-by : (tiles : List ℕ) (count : ℕ) (b : Board) (a : TileNumber) (x : ℕ) → a ≡ Tiles x → a ≡ tiles_counted tiles
+pub contents-by : (tiles : List ℕ) (count : ℕ) (b : Board) (a : Answer ℕ) (x : ℕ) → a ≡ Tiles x → a ≡ tiles_counted tiles
     → (m : ℕ) → m ≡ refusal (board_contents tiles count b x) → m ≡ refusal (board_contents tiles count b (tiles_in tiles))
 contents-by tiles count b a x y t m e = e ∙ ap (λ (n : ℕ). refusal (board_contents tiles count b n)) (so-many tiles a t x y)

@@ -3,101 +3,98 @@
 
 ghost use Rattle.std.specs.Prelude.{◌≡◌, ◌≤◌, ◌<◌, length};
 ghost use Rattle.base.specs.Tables.{tab};
-ghost use Rattle.base.specs.Refusal.{refusal};
+ghost use Rattle.rules.specs.Answers.{checked};
 ghost use Rattle.rules.specs.Bounds.{max_cells, max_tiles};
 ghost use Rattle.rules.specs.Grid.{entry_of};
 ghost use Rattle.rules.specs.Board.{plane_lengths, board_lengths, board_contents, laying_checks, lifting_checks};
 ghost use Rattle.rules.specs.Promises.{before, after, board};
 
-use check_contents::{colours_refused, no_word_above};
-use check_sizes::{board_sides, cells_of, words_have_length};
-use rules::Cell;
+use check_contents::{check_colours, no_word_above};
+use check_sizes::{board_sides, cells_of, has_length};
+use rules::{Cell, Refusal};
 
-// LENGTH of the three planes of a board of so many cells, 0 where all pass.
-pub fn planes_refused(pieces: &[u32], weights: &[u32], counts: &[u32], cells: usize) -> u8
-    ensures { result ≡ refusal (plane_lengths cells (board pieces.now weights.now counts.now)) }
+// LENGTH of the three planes of a board of so many cells.
+pub fn check_planes(pieces: &[u32], weights: &[u32], counts: &[u32], cells: usize) -> Result<(), Refusal>
+    ensures { result ≡ checked (plane_lengths cells (board pieces.now weights.now counts.now)) }
 {
-    if !words_have_length(pieces, cells) {
-        return rules::LENGTH;
+    if !has_length(pieces, cells) {
+        return Err(Refusal::Length);
     }
-    if !words_have_length(weights, cells) {
-        return rules::LENGTH;
+    if !has_length(weights, cells) {
+        return Err(Refusal::Length);
     }
-    if !words_have_length(counts, cells) {
-        return rules::LENGTH;
+    if !has_length(counts, cells) {
+        return Err(Refusal::Length);
     }
-    0
+    Ok(())
 }
 
-// SHAPE and LENGTH of the three planes, 0 where all pass.
-pub fn lengths_refused(
+// SHAPE and LENGTH of the three planes.
+pub fn check_lengths(
     pieces: &[u32],
     weights: &[u32],
     counts: &[u32],
     rows: usize,
     cols: usize,
-) -> u8
-    ensures { result ≡ refusal (board_lengths rows cols (board pieces.now weights.now counts.now)) }
+) -> Result<(), Refusal>
+    ensures { result ≡ checked (board_lengths rows cols (board pieces.now weights.now counts.now)) }
 {
     if !board_sides(rows, cols) {
-        return rules::SHAPE;
+        return Err(Refusal::Shape);
     }
-    planes_refused(pieces, weights, counts, cells_of(rows, cols))
+    check_planes(pieces, weights, counts, cells_of(rows, cols))
 }
 
-// COUNT, and CELL of all that is read, 0 where all pass; n is the number of tiles.
-pub fn contents_refused(
+// COUNT, and CELL of all that is read; n is the number of tiles.
+pub fn check_cells(
     pieces: &[u32],
     weights: &[u32],
     counts: &[u32],
     tiles: &[u8],
     count: u32,
     n: usize,
-) -> u8
+) -> Result<(), Refusal>
     requires { n ≤ max_tiles }
-    ensures { result ≡ refusal (board_contents tiles.now count (board pieces.now weights.now counts.now) n) }
+    ensures { result ≡ checked (board_contents tiles.now count (board pieces.now weights.now counts.now) n) }
 {
-    let no = colours_refused(tiles, count, pieces);
-    if no != 0 {
-        return no;
-    }
+    check_colours(tiles, count, pieces)?;
     if !no_word_above(weights, rules::MAX_WEIGHT) {
-        return rules::CELL;
+        return Err(Refusal::Cell);
     }
     if !no_word_above(counts, n as u32) {
-        return rules::CELL;
+        return Err(Refusal::Cell);
     }
-    0
+    Ok(())
 }
 
-// TYPE and TAKEN of a lay on a cell of the board, 0 where both pass.
-pub fn laying_refused(pieces: &[u32], cols: usize, cell: Cell, count: u32, colour: u32) -> u8
+// TYPE and TAKEN of a lay on a cell of the board.
+pub fn check_laying(pieces: &[u32], cols: usize, cell: Cell, count: u32, colour: u32) -> Result<(), Refusal>
     requires { (entry_of cols cell < length pieces.now) × (length pieces.now ≤ max_cells) }
-    ensures { result ≡ refusal (laying_checks pieces.now (entry_of cols cell) count colour) }
+    ensures { result ≡ checked (laying_checks pieces.now (entry_of cols cell) count colour) }
 {
     if colour < 1 {
-        return rules::TYPE;
+        return Err(Refusal::Type);
     }
     if count < colour {
-        return rules::TYPE;
+        return Err(Refusal::Type);
     }
     let k = cell.0 * cols + cell.1;
     if rules::BARE_PIECE < pieces[k] {
-        return rules::TAKEN;
+        return Err(Refusal::Taken);
     }
-    0
+    Ok(())
 }
 
-// BARE of a lift on a cell of the board, 0 where a piece stands there.
-pub fn lifting_refused(pieces: &[u32], cols: usize, cell: Cell) -> u8
+// BARE of a lift on a cell of the board.
+pub fn check_lifting(pieces: &[u32], cols: usize, cell: Cell) -> Result<(), Refusal>
     requires { (entry_of cols cell < length pieces.now) × (length pieces.now ≤ max_cells) }
-    ensures { result ≡ refusal (lifting_checks pieces.now (entry_of cols cell)) }
+    ensures { result ≡ checked (lifting_checks pieces.now (entry_of cols cell)) }
 {
     let k = cell.0 * cols + cell.1;
     if rules::BARE_PIECE < pieces[k] {
         return 0;
     }
-    rules::BARE
+    Err(Refusal::Bare)
 }
 
 pub fn fill(plane: &mut [u32], value: u32)

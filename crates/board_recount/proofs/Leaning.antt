@@ -11,16 +11,15 @@ use Rattle.rules.specs.Tiles.{tiles_counted}
 use Rattle.rules.specs.Board.{counted_contents, recount_checks}
 use Rattle.rules.specs.declared.World.{World}
 use Rattle.rules.specs.declared.Offset.{Offset}
-use Rattle.rules.specs.declared.TileNumber.{TileNumber}
-use Rattle.rules.specs.declared.TileNumber.TheVariants.{Tiles}
 use Rattle.check_sizes.proofs.Tiled.{so-many}
 use Rattle.fit_windows.specs.Ready.{Countable}
 use Rattle.fit_windows.proofs.Accepted.{ready-from}
 use Rattle.board_near.specs.Near.{OnPlane}
 use Rattle.board_near.proofs.Leaning.{on-plane}
+use Rattle.rules.specs.Answers.{Answer}
 
 -- the contents, by the number of tiles that `tile_number` answers
-pub counted-by : (counts pieces tiles : List ℕ) (count : ℕ) (a : TileNumber) (x : ℕ) → a ≡ Tiles x → a ≡ tiles_counted tiles
+pub counted-by : (counts pieces tiles : List ℕ) (count : ℕ) (a : Answer ℕ) (x : ℕ) → a ≡ Tiles x → a ≡ tiles_counted tiles
     → (m : ℕ) → m ≡ refusal (counted_contents tiles count pieces counts x) → m ≡ refusal (counted_contents tiles count pieces counts (tiles_in tiles))
 counted-by counts pieces tiles count a x y t m e =
     e ∙ ap (λ (n : ℕ). refusal (counted_contents tiles count pieces counts n)) (so-many tiles a t x y)

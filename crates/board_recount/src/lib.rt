@@ -2,7 +2,7 @@
 #![tactic(auto)]
 
 ghost use Rattle.std.specs.Prelude.{◌≡◌, ◌+◌, ◌<◌, ◌≤◌, length};
-ghost use Rattle.base.specs.Refusal.{refusal};
+ghost use Rattle.rules.specs.Answers.{checked};
 ghost use Rattle.base.specs.Regions.{over_row};
 ghost use Rattle.rules.specs.Bounds.{max_tiles};
 ghost use Rattle.rules.specs.Grid.{flat};
@@ -13,10 +13,10 @@ ghost use Rattle.fit_windows.specs.Ready.{Countable};
 ghost use Rattle.board_recount.specs.Recounted.{recounted_by, recounted_in, InSpans};
 
 use board_near::near_spans;
-use check_contents::{colours_refused, no_word_above};
-use check_sizes::{board_sides, cells_of, tile_number, words_have_length};
+use check_contents::{check_colours, no_word_above};
+use check_sizes::{board_sides, cells_of, tile_number, has_length};
 use fit_windows::fit_count_at;
-use rules::{Offset, Span, SpanAnswer, TileNumber, World, Written};
+use rules::{Offset, Refusal, Spans, World};
 
 // The count of the region that starts at (row, col): counted anew where the region lies inside the grid, else as it was.
 fn count_after(
@@ -67,16 +67,15 @@ pub fn recount_near(
     rows: usize,
     cols: usize,
     tiles: &[u8],
-    rowspan: Span,
-    colspan: Span,
+    spans: Spans,
 )
-    requires { (InSpans counts.old rows cols rowspan colspan) × (Countable pieces.now rows cols tiles.now) }
-    ensures { after counts ≡ recounted_in (flat rows cols) cols tiles.now pieces.now rowspan colspan (before counts) }
+    requires { (InSpans counts.old rows cols spans.rows spans.cols) × (Countable pieces.now rows cols tiles.now) }
+    ensures { after counts ≡ recounted_in (flat rows cols) cols tiles.now pieces.now spans.rows spans.cols (before counts) }
 {
-    let mut row = rowspan.0;
-    while row < rowspan.1 {
-        let from = row * cols + colspan.0;
-        let to = row * cols + colspan.1;
+    let mut row = spans.rows.0;
+    while row < spans.rows.1 {
+        let from = row * cols + spans.cols.0;
+        let to = row * cols + spans.cols.1;
         recount_row(
             &mut counts[from..to],
             pieces,
@@ -84,52 +83,49 @@ pub fn recount_near(
             cols,
             tiles,
             row,
-            colspan.0,
+            spans.cols.0,
         );
         row += 1;
     }
 }
 
-// COUNT, and CELL of all that is read, 0 where all pass; n is the number of tiles.
-fn contents_refused(counts: &[u32], pieces: &[u32], tiles: &[u8], count: u32, n: usize) -> u8
+// COUNT, and CELL of all that is read; n is the number of tiles.
+fn check_counted(counts: &[u32], pieces: &[u32], tiles: &[u8], count: u32, n: usize) -> Result<(), Refusal>
     requires { n ≤ max_tiles }
-    ensures { result ≡ refusal (counted_contents tiles.now count pieces.now counts.now n) }
+    ensures { result ≡ checked (counted_contents tiles.now count pieces.now counts.now n) }
 {
-    let no = colours_refused(tiles, count, pieces);
-    if no != 0 {
-        return no;
-    }
+    check_colours(tiles, count, pieces)?;
     if !no_word_above(counts, n as u32) {
-        return rules::CELL;
+        return Err(Refusal::Cell);
     }
-    0
+    Ok(())
 }
 
-// SHAPE, LENGTH, COUNT and CELL of the planes and the tiles, 0 where all pass.
-fn planes_refused(
+// SHAPE, LENGTH, COUNT and CELL of the planes and the tiles.
+fn check_planes(
     counts: &[u32],
     pieces: &[u32],
     rows: usize,
     cols: usize,
     tiles: &[u8],
     count: u32,
-) -> u8
-    ensures { result ≡ refusal (counted_planes counts.now pieces.now rows cols tiles.now count) }
+) -> Result<(), Refusal>
+    ensures { result ≡ checked (counted_planes counts.now pieces.now rows cols tiles.now count) }
 {
     if !board_sides(rows, cols) {
-        return rules::SHAPE;
+        return Err(Refusal::Shape);
     }
     let cells = cells_of(rows, cols);
-    if !words_have_length(counts, cells) {
-        return rules::LENGTH;
+    if !has_length(counts, cells) {
+        return Err(Refusal::Length);
     }
-    if !words_have_length(pieces, cells) {
-        return rules::LENGTH;
+    if !has_length(pieces, cells) {
+        return Err(Refusal::Length);
     }
-    let TileNumber::Tiles(n) = tile_number(tiles) else {
-        return rules::LENGTH;
+    let Ok(n) = tile_number(tiles) else {
+        return Err(Refusal::Length);
     };
-    contents_refused(counts, pieces, tiles, count, n)
+    check_counted(counts, pieces, tiles, count, n)
 }
 
 // The recount that follows a lay or a lift.
@@ -142,16 +138,13 @@ pub fn recount_feasibility(
     count: u32,
     place: World,
     offset: Offset,
-) -> Written
+) -> Result<(), Refusal>
     ensures { Recounts (panel rows cols tiles.now offset) count place pieces.now (before counts) result (after counts) }
 {
-    let no = planes_refused(counts, pieces, rows, cols, tiles, count);
-    if no != 0 {
-        return Written::Refused(no);
-    }
-    let SpanAnswer::Spans(rowspan, colspan) = near_spans(rows, cols, place, offset) else {
-        return Written::Refused(rules::PLACE);
+    check_planes(counts, pieces, rows, cols, tiles, count)?;
+    let Ok(spans) = near_spans(rows, cols, place, offset) else {
+        return Err(Refusal::Place);
     };
-    recount_near(counts, pieces, rows, cols, tiles, rowspan, colspan);
-    Written::Done
+    recount_near(counts, pieces, rows, cols, tiles, spans);
+    Ok(())
 }

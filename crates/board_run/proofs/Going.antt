@@ -20,7 +20,6 @@ use Rattle.rules.specs.Forced.{admits, is_forced, forced_there, with_positions}
 use Rattle.rules.specs.Board.{Panel, Board, shape_of, entry_in, reach, raised, recounted, laid}
 use Rattle.rules.specs.ForcedRun.{Run, forced_by, still_forced, queueing, taking, stepped, begun}
 use Rattle.rules.specs.declared.World.{World}
-use Rattle.rules.specs.declared.GenerationBounds.{GenerationBounds}
 use Rattle.rules.specs.declared.ForcedPosition.{ForcedPosition}
 use Rattle.rules.proofs.Listed.{still-in}
 use Rattle.rules.proofs.Shares.{share-le}
@@ -28,6 +27,7 @@ use Rattle.rules.proofs.Queues.{each-with, each-forced}
 use Rattle.rules.proofs.ForcedRun.{queued_by, laying_of, added-room, added_full, laid_then, dropped-then, by-step}
 use Rattle.fit_windows.proofs.Accepted.{set-countable}
 use Rattle.board_run.specs.Running.{Going}
+use Rattle.rules.specs.declared.BoundingBox.{BoundingBox}
 
 -- ---- the colour of an entry
 
@@ -41,7 +41,7 @@ module _ (j : Panel) (count : ℕ) where
   abbrev On : ForcedPosition → Type 0
   On e = on_board j.rows j.cols e.coordinates j.offset ≡ true
 
-  forced-on : (bounds : GenerationBounds) (b : Board) (place : World) → Each On (forced_by j count bounds b place)
+  forced-on : (bounds : Option BoundingBox) (b : Board) (place : World) → Each On (forced_by j count bounds b place)
   unfolding is_forced forced_there
   forced-on bounds b place =
       each-forced j.kind b.pieces j.rows j.cols j.tiles count place j.offset bounds On
@@ -64,7 +64,7 @@ module _ (j : Panel) (count : ℕ) where
     pub going-none : Going j count b [] taken
     going-none = going-with [] taken tt (omega arith)
 
-    pub going_more : (bounds : GenerationBounds) (place : World) → Going j count b (with_positions l (forced_by j count bounds b place)) taken
+    pub going_more : (bounds : Option BoundingBox) (place : World) → Going j count b (with_positions l (forced_by j count bounds b place)) taken
     going_more bounds place = going-with _ taken (each-with On l (forced_by j count bounds b place) g.on (forced-on bounds b place)) (omega arith)
 
     -- a colour laid on a cell: a colour is a piece, and no weight grows by more than 3
@@ -100,7 +100,7 @@ module _ (j : Panel) (count : ℕ) where
 
 -- ---- a step
 
-module _ (j : Panel) (count : ℕ) (bounds : GenerationBounds) where
+module _ (j : Panel) (count : ℕ) (bounds : Option BoundingBox) where
   -- what a run leans on
   abbrev pub Goes : Run → Type 0
   Goes s = Going j count s.board s.queue s.taken

@@ -22,9 +22,6 @@ use Rattle.rules.specs.declared.World.{World}
 use Rattle.rules.specs.declared.Offset.{Offset}
 use Rattle.rules.specs.declared.Cell.{Cell}
 use Rattle.rules.specs.declared.Span.{Span}
-use Rattle.rules.specs.declared.SpanAnswer.{SpanAnswer}
-use Rattle.rules.specs.declared.SpanAnswer.TheVariants.{Spans, Refused}
-use Rattle.rules.specs.declared.GenerationBounds.{GenerationBounds}
 use Rattle.rules.specs.declared.ForcedPosition.{ForcedPosition}
 use Rattle.rules.specs.declared.ForcedPositions.{ForcedPositions}
 use Rattle.rules.proofs.Walled.{board-on-wall}
@@ -41,12 +38,15 @@ use Rattle.board_run.specs.Running.{Going, Turning, Laying}
 use Rattle.board_run.specs.declared.Progress.{Progress}
 use Rattle.board_run.proofs.Going.{going-laid}
 use Rattle.board_run.proofs.Showing.{split}
+use Rattle.rules.specs.Answers.{Answer}
+use Rattle.rules.specs.declared.BoundingBox.{BoundingBox}
+use Rattle.rules.specs.declared.Spans.{Spans}
 
 pub cell-on : (rows cols : ℕ) (w : World) (o : Offset) → on_board rows cols w o ≡ true → (cell : Cell) → cell ≡ cell_of w o
     → CellOn rows cols cell.0 cell.1
 cell-on rows cols w o on cell e = rw e record { rowwise = row_below rows cols w o on; colwise = col-below rows cols w o on }
 
-pub found-few : (j : Panel) (count : ℕ) (bounds : GenerationBounds) (b : Board) (place : World) (found : ForcedPositions)
+pub found-few : (j : Panel) (count : ℕ) (bounds : Option BoundingBox) (b : Board) (place : World) (found : ForcedPositions)
     → found ≡ positions_of (forced_by j count bounds b place) → found.len ≤ added_room
 found-few j count bounds b place found e =
     omega (
@@ -63,7 +63,7 @@ module _ (j : Panel) (b : Board) (e : ForcedPosition) (g : Laying j b e) where
   pub walled : on_wall w ≡ true
   walled = board-on-wall j.rows j.cols w j.offset g.tried.board.tall g.tried.board.wide g.fits g.on
 
-  pub spans-there : {A : Type 0} (a : SpanAnswer) (n : ℕ) → a ≡ Refused n → a ≡ near_spans j.rows j.cols w j.offset → A
+  pub spans-there : {A : Type 0} (a : Answer Spans) (n : ℕ) → a ≡ Refused n → a ≡ near_spans j.rows j.cols w j.offset → A
   spans-there a n z e =
       let none : PLACE ≡ 0 =
       place-stops j.rows j.cols w j.offset a n z e
@@ -80,7 +80,7 @@ module _ (j : Panel) (b : Board) (e : ForcedPosition) (g : Laying j b e) where
         colwise = col-below j.rows j.cols w j.offset g.on;
       }
 
-  pub movable : (a : SpanAnswer) (rowspan colspan : Span) → a ≡ Spans rowspan colspan → a ≡ near_spans j.rows j.cols w j.offset
+  pub movable : (a : Answer Spans) (rowspan colspan : Span) → a ≡ Spans rowspan colspan → a ≡ near_spans j.rows j.cols w j.offset
       → (cell : Cell) → cell ≡ cell_of w j.offset → Movable b j.rows j.cols j.tiles cell rowspan colspan
   movable a rowspan colspan z n cell q =
       rw q

@@ -17,19 +17,19 @@ use Rattle.rules.specs.Bounds.{max_budget}
 use Rattle.rules.specs.Board.{Panel, Board}
 use Rattle.rules.specs.ForcedRun.{Run, stepped, begun, run_out}
 use Rattle.rules.specs.declared.World.{World}
-use Rattle.rules.specs.declared.GenerationBounds.{GenerationBounds}
 use Rattle.rules.proofs.ForcedRun.{steps-full, steps-none, stays}
 use Rattle.queue_ring.specs.Ring.{Slots, waiting, Ring}
 use Rattle.board_run.specs.Running.{Going, Turning, Shows}
 use Rattle.board_run.specs.declared.Progress.{Progress}
 use Rattle.board_run.proofs.Going.{Goes, begun-goes, going_step}
 use Rattle.board_run.proofs.Showing.{nobody, itself, shows-itself}
+use Rattle.rules.specs.declared.BoundingBox.{BoundingBox}
 
 -- whether an entry may be taken
 abbrev pub may_take : Progress → ℕ → Bool
 may_take p budget = not p.full && ltb 0 p.len && ltb p.taken budget
 
-module _ (j : Panel) (count : ℕ) (bounds : GenerationBounds) where
+module _ (j : Panel) (count : ℕ) (bounds : Option BoundingBox) where
   -- so many steps of a run
   abbrev steps_from : ℕ → Run → Run
   steps_from zero s = s

@@ -26,12 +26,8 @@ use Rattle.rules.specs.Board.{Panel, Board, shape_of, entry_in, laid}
 use Rattle.rules.specs.ForcedRun.{Run, forced_by, still_forced, queueing, taking, stepped}
 use Rattle.rules.specs.declared.World.{World}
 use Rattle.rules.specs.declared.Cell.{Cell}
-use Rattle.rules.specs.declared.GenerationBounds.{GenerationBounds}
 use Rattle.rules.specs.declared.ForcedPosition.{ForcedPosition}
 use Rattle.rules.specs.declared.ForcedPositions.{ForcedPositions}
-use Rattle.rules.specs.declared.CountAnswer.{CountAnswer}
-use Rattle.rules.specs.declared.RunAnswer.TheVariants.{Done, Spent, Full}
-use Rattle.rules.specs.declared.CountAnswer.TheVariants.{Is, Refused}
 use Rattle.rules.proofs.ForcedRun.{queued_by, laying_of, added-room, added_full, laid_then, dropped-then, steps_next}
 use Rattle.bitset_colours.proofs.Colours.{one_only}
 use Rattle.fit_forced.specs.Round.{only_at}
@@ -40,6 +36,8 @@ use Rattle.queue_ring.proofs.Ring.{next-out}
 use Rattle.queue_ring.proofs.Growing.{room-said, full-said}
 use Rattle.board_run.specs.Running.{Shows, end_of}
 use Rattle.board_run.specs.declared.Progress.{Progress}
+use Rattle.rules.specs.Answers.{Answer}
+use Rattle.rules.specs.declared.BoundingBox.{BoundingBox}
 
 -- ---- an entry that is still forced
 
@@ -82,8 +80,8 @@ pub offered-of : (l : List ForcedPosition) → offered (positions_of l) ≡ l
 unfolding offered positions_of padded
 offered-of l = take-append_seam l (replicate (added_room - length l) no_position)
 
-module _ (j : Panel) (count : ℕ) (bounds : GenerationBounds) (place : World) (s : Run) (q after : Slots) (p : Progress) (shown : Shows s s.board q p)
-    (found : ForcedPositions) (all : found ≡ positions_of (forced_by j count bounds s.board place)) (a : CountAnswer)
+module _ (j : Panel) (count : ℕ) (bounds : Option BoundingBox) (place : World) (s : Run) (q after : Slots) (p : Progress) (shown : Shows s s.board q p)
+    (found : ForcedPositions) (all : found ≡ positions_of (forced_by j count bounds s.board place)) (a : Answer ℕ)
     (g : Grows q p.first p.len (with_positions (waiting q p.first p.len) (offered found)) a after) where
   -- the entries that are to wait, as the code adds them and as the run has them
   abbrev more : List ForcedPosition
@@ -141,7 +139,7 @@ module _ (q : Slots) (p : Progress) (first : ℕ) (next : first ≡ slot_of p.fi
       ∙ next-out q p.first (p.len - 1) ring.begins
       ∙ ap (λ (m : ℕ). in_slot q p.first ∷ waiting q m (p.len - 1)) (sym next)
 
-module _ (j : Panel) (count : ℕ) (bounds : GenerationBounds) (s : Run) (b : Board) (q : Slots) (p : Progress) (shown : Shows s b q p) (waits : 0 < p.len)
+module _ (j : Panel) (count : ℕ) (bounds : Option BoundingBox) (s : Run) (b : Board) (q : Slots) (p : Progress) (shown : Shows s b q p) (waits : 0 < p.len)
     (free : p.full ≡ false) (first : ℕ) (next : first ≡ slot_of p.first 1) (e : ForcedPosition) (out : e ≡ in_slot q p.first) where
   abbrev rest : List ForcedPosition
   rest = waiting q first (p.len - 1)

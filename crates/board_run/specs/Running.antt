@@ -5,17 +5,17 @@ use Rattle.base.specs.Tables.{Each}
 use Rattle.base.specs.Refusal.{Gives}
 use Rattle.rules.specs.Bounds.{max_colours, max_weight, max_budget}
 use Rattle.rules.specs.Tests.{offset_fits, on_board}
-use Rattle.rules.specs.Answers.{run_answer}
+use Rattle.rules.specs.Answers.{Answer, run_answer}
 use Rattle.rules.specs.Board.{Panel, Board}
 use Rattle.rules.specs.ForcedRun.{Run, run_out}
 use Rattle.rules.specs.declared.World.{World}
-use Rattle.rules.specs.declared.GenerationBounds.{GenerationBounds}
 use Rattle.rules.specs.declared.ForcedPosition.{ForcedPosition}
-use Rattle.rules.specs.declared.RunAnswer.{RunAnswer}
 use Rattle.fit_windows.specs.Ready.{Countable, Ready}
 use Rattle.queue_ring.specs.Ring.{Slots, slot_of, waiting, Ring}
 use Rattle.board_weights.specs.Shares.{Light}
 use Rattle.board_run.specs.declared.Progress.{Progress}
+use Rattle.rules.specs.declared.BoundingBox.{BoundingBox}
+use Rattle.rules.specs.declared.RanOut.{RanOut}
 
 -- what the checks leave at first, and each step after it. A step adds 3 to a weight at most, so that no weight is too large to be added
 -- to, though it may pass document 01's limit on the way
@@ -60,10 +60,10 @@ pub record Shows (s : Run) (b : Board) (q : Slots) (p : Progress) : Type 0 where
   pub ring : Ring q p.first p.len
 
 -- how a run ended
-abbrev pub end_of : Run → RunAnswer
+abbrev pub end_of : Run → Answer RanOut
 end_of s = run_answer 0 s.full s.queue s.taken (length s.lain)
 
 -- the forced pieces run out, the checks made
-abbrev pub Ends : Panel → ℕ → World → GenerationBounds → ℕ → Board → RunAnswer → Board → Type 0
+abbrev pub Ends : Panel → ℕ → World → Option BoundingBox → ℕ → Board → Answer RanOut → Board → Type 0
 Ends j count place bounds budget old =
     Gives (end_of (run_out j count bounds old place budget)) (run_out j count bounds old place budget).board

@@ -19,7 +19,7 @@ use board_near::near_spans;
 use fit_forced::{forced_round, only_colour_at};
 use places::cell_of;
 use queue_ring::{add_positions, entry_in, slot_of};
-use rules::{CountAnswer, ForcedPosition, GenerationBounds, Offset, RunAnswer, SpanAnswer, World};
+use rules::{BoundingBox, ForcedPosition, Offset, RanOut, Refusal, World};
 
 // Where the queue stands in its slots, how many entries were taken and laid, and whether an adding met ROOM.
 #[derive(Clone, Copy)]
@@ -70,13 +70,13 @@ fn lay_entry(
         ≡ laid (flat rows cols) tiles.now (board_before pieces weights counts) (entry_in (panel rows cols tiles.now offset) entry.coordinates) entry.colour }
 {
     let place = entry.coordinates;
-    let SpanAnswer::Spans(rowspan, colspan) = near_spans(rows, cols, place, offset) else {
+    let Ok(spans) = near_spans(rows, cols, place, offset) else {
         return;
     };
     let cell = cell_of(place, offset);
     let colour = entry.colour;
     lay_at(
-        pieces, weights, counts, rows, cols, tiles, cell, rowspan, colspan, colour,
+        pieces, weights, counts, rows, cols, tiles, cell, spans, colour,
     );
 }
 
@@ -89,7 +89,7 @@ fn queue_round(
     count: u32,
     place: World,
     offset: Offset,
-    bounds: GenerationBounds,
+    bounds: Option<BoundingBox>,
     queuerows: &mut [i32; rules::QUEUE_ROOM],
     queuecols: &mut [i32; rules::QUEUE_ROOM],
     queuecolours: &mut [u32; rules::QUEUE_ROOM],
@@ -102,7 +102,7 @@ fn queue_round(
         → Shows (queueing (panel rows cols tiles.now offset) count bounds place s) s.board (slots_after queuerows queuecols queuecolours) result) }
 {
     let found = forced_round(pieces, rows, cols, tiles, count, place, offset, bounds);
-    let CountAnswer::Is(len) = add_positions(
+    let Ok(len) = add_positions(
         queuerows,
         queuecols,
         queuecolours,
@@ -136,7 +136,7 @@ fn begin(
     count: u32,
     place: World,
     offset: Offset,
-    bounds: GenerationBounds,
+    bounds: Option<BoundingBox>,
     queuerows: &mut [i32; rules::QUEUE_ROOM],
     queuecols: &mut [i32; rules::QUEUE_ROOM],
     queuecolours: &mut [u32; rules::QUEUE_ROOM],
@@ -193,7 +193,7 @@ fn turn(
     tiles: &[u8],
     count: u32,
     offset: Offset,
-    bounds: GenerationBounds,
+    bounds: Option<BoundingBox>,
     queuerows: &mut [i32; rules::QUEUE_ROOM],
     queuecols: &mut [i32; rules::QUEUE_ROOM],
     queuecolours: &mut [u32; rules::QUEUE_ROOM],
@@ -242,7 +242,7 @@ fn goes_on(state: Progress, budget: usize) -> bool
 }
 
 // How the run ended. Full is said before spent, and done wherever no entry waits.
-fn ended(state: Progress) -> RunAnswer
+fn ended(state: Progress) -> Result<RanOut, Refusal>
     ensures { (s : Run) (b : Board) (q : Slots) → Shows s b q state → result ≡ end_of s }
 {
     if state.full {
@@ -265,9 +265,9 @@ pub fn run_out(
     count: u32,
     place: World,
     offset: Offset,
-    bounds: GenerationBounds,
+    bounds: Option<BoundingBox>,
     budget: usize,
-) -> RunAnswer
+) -> Result<RanOut, Refusal>
     requires { Going (panel rows cols tiles.now offset) count (board pieces.old weights.old counts.old) [] 0
         × (on_wall place ≡ true) × (budget ≤ max_budget) }
     ensures { Ends (panel rows cols tiles.now offset) count place bounds budget

@@ -10,7 +10,7 @@ ghost use Rattle.board_near.specs.Near.{OnPlane};
 ghost use Rattle.board_weigh.specs.Added.{near_span, added_by, row_adds, box_adds, InRow, InBoard};
 
 use board_weights::share_at;
-use rules::{Cell, Span};
+use rules::{Cell, Span, Spans};
 
 // The span of radius 2 round an index of a side, its end clipped to the side.
 fn near_span(x: usize, side: usize) -> Span
@@ -58,18 +58,17 @@ fn box_adds(
     rows: usize,
     cols: usize,
     cell: Cell,
-    rowspan: Span,
-    colspan: Span,
+    spans: Spans,
 ) -> u32
     requires in_board { InBoard pieces.now rows cols }
-    requires rowspan_le_rows { rowspan.1 ≤ rows }
-    requires colspan_le_cols { colspan.1 ≤ cols }
-    ensures { result ≡ box_adds pieces.now cols cell rowspan colspan }
+    requires rowspan_le_rows { spans.rows.1 ≤ rows }
+    requires colspan_le_cols { spans.cols.1 ≤ cols }
+    ensures { result ≡ box_adds pieces.now cols cell spans.rows spans.cols }
 {
     let mut sum = 0;
-    let mut row = rowspan.0;
-    while row < rowspan.1 {
-        sum += row_adds(pieces, cols, cell, row, colspan);
+    let mut row = spans.rows.0;
+    while row < spans.rows.1 {
+        sum += row_adds(pieces, cols, cell, row, spans.cols);
         row += 1;
     }
     sum

@@ -8,9 +8,9 @@ use Rattle.rules.specs.Grid.{flat}
 use Rattle.rules.specs.Promises.{Raises, Lowers}
 use Rattle.rules.specs.declared.World.{World}
 use Rattle.rules.specs.declared.Offset.{Offset}
-use Rattle.rules.specs.declared.Written.{Written}
+use Rattle.rules.specs.Answers.{Answer}
 
-module _ (rows cols : ℕ) (w : World) (o : Offset) (old : List ℕ) {a c : Written} {l m : List ℕ} where
+module _ (rows cols : ℕ) (w : World) (o : Offset) (old : List ℕ) {a c : Answer Unit} {l m : List ℕ} where
   pub raise-coincide : Raises flat rows cols w o old a l → Raises flat rows cols w o old c m → (a ≡ c) × (l ≡ m)
   raise-coincide p q = gives-coincide p q
 

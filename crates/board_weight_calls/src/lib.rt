@@ -2,7 +2,7 @@
 #![tactic(auto)]
 
 ghost use Rattle.std.specs.Prelude.{◌≡◌};
-ghost use Rattle.base.specs.Refusal.{refusal};
+ghost use Rattle.rules.specs.Answers.{checked};
 ghost use Rattle.rules.specs.Grid.{flat};
 ghost use Rattle.rules.specs.Board.{weight_plane_checks};
 ghost use Rattle.rules.specs.Promises.{before, after, Raises, Lowers};
@@ -10,25 +10,25 @@ ghost use Rattle.rules.specs.Promises.{before, after, Raises, Lowers};
 use board_near::near_spans;
 use board_weights::{lower_near, raise_near};
 use check_contents::no_word_above;
-use check_sizes::{board_sides, cells_of, words_have_length};
+use check_sizes::{board_sides, cells_of, has_length};
 use places::cell_of;
-use rules::{Offset, SpanAnswer, World, Written};
+use rules::{Offset, Refusal, World};
 
-// SHAPE, LENGTH and CELL of a weights plane, 0 where all pass.
-fn weights_refused(weights: &[u32], rows: usize, cols: usize) -> u8
-    ensures { result ≡ refusal (weight_plane_checks weights.now rows cols) }
+// SHAPE, LENGTH and CELL of a weights plane.
+fn check_weights(weights: &[u32], rows: usize, cols: usize) -> Result<(), Refusal>
+    ensures { result ≡ checked (weight_plane_checks weights.now rows cols) }
 {
     if !board_sides(rows, cols) {
-        return rules::SHAPE;
+        return Err(Refusal::Shape);
     }
     let cells = cells_of(rows, cols);
-    if !words_have_length(weights, cells) {
-        return rules::LENGTH;
+    if !has_length(weights, cells) {
+        return Err(Refusal::Length);
     }
     if !no_word_above(weights, rules::MAX_WEIGHT) {
-        return rules::CELL;
+        return Err(Refusal::Cell);
     }
-    0
+    Ok(())
 }
 
 // The weights that the text's `update_grid_state` adds for a piece.
@@ -38,19 +38,16 @@ pub fn raise_adjacency_weights(
     cols: usize,
     place: World,
     offset: Offset,
-) -> Written
+) -> Result<(), Refusal>
     ensures { Raises flat rows cols place offset (before weights) result (after weights) }
 {
-    let no = weights_refused(weights, rows, cols);
-    if no != 0 {
-        return Written::Refused(no);
-    }
-    let SpanAnswer::Spans(rowspan, colspan) = near_spans(rows, cols, place, offset) else {
-        return Written::Refused(rules::PLACE);
+    check_weights(weights, rows, cols)?;
+    let Ok(spans) = near_spans(rows, cols, place, offset) else {
+        return Err(Refusal::Place);
     };
     let cell = cell_of(place, offset);
-    raise_near(weights, rows, cols, cell, rowspan, colspan);
-    Written::Done
+    raise_near(weights, rows, cols, cell, spans);
+    Ok(())
 }
 
 // The weights that it takes back.
@@ -60,17 +57,14 @@ pub fn revert_adjacency_weights(
     cols: usize,
     place: World,
     offset: Offset,
-) -> Written
+) -> Result<(), Refusal>
     ensures { Lowers flat rows cols place offset (before weights) result (after weights) }
 {
-    let no = weights_refused(weights, rows, cols);
-    if no != 0 {
-        return Written::Refused(no);
-    }
-    let SpanAnswer::Spans(rowspan, colspan) = near_spans(rows, cols, place, offset) else {
-        return Written::Refused(rules::PLACE);
+    check_weights(weights, rows, cols)?;
+    let Ok(spans) = near_spans(rows, cols, place, offset) else {
+        return Err(Refusal::Place);
     };
     let cell = cell_of(place, offset);
-    lower_near(weights, rows, cols, cell, rowspan, colspan);
-    Written::Done
+    lower_near(weights, rows, cols, cell, spans);
+    Ok(())
 }

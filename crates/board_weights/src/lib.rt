@@ -12,7 +12,7 @@ ghost use Rattle.board_near.specs.Near.{OnPlane, Nearby};
 ghost use Rattle.board_weights.specs.Shares.{raised_by, lowered_by, Light};
 
 use board_near::distance;
-use rules::{Cell, Span};
+use rules::{Cell, Spans};
 
 // What a piece adds at a distance.
 fn share_of(distance: usize) -> u32
@@ -69,17 +69,16 @@ pub fn raise_near(
     rows: usize,
     cols: usize,
     cell: Cell,
-    rowspan: Span,
-    colspan: Span,
+    spans: Spans,
 )
-    requires { (OnPlane weights.old rows cols cell) × (Nearby rows cols cell rowspan colspan) × (Light weights.old) }
+    requires { (OnPlane weights.old rows cols cell) × (Nearby rows cols cell spans.rows spans.cols) × (Light weights.old) }
     ensures { after weights ≡ raised (flat rows cols) (entry_of cols cell) (before weights) }
 {
-    let mut row = rowspan.0;
-    while row < rowspan.1 {
-        let from = row * cols + colspan.0;
-        let to = row * cols + colspan.1;
-        raise_row(&mut weights[from..to], cell, row, colspan.0);
+    let mut row = spans.rows.0;
+    while row < spans.rows.1 {
+        let from = row * cols + spans.cols.0;
+        let to = row * cols + spans.cols.1;
+        raise_row(&mut weights[from..to], cell, row, spans.cols.0);
         row += 1;
     }
 }
@@ -90,17 +89,16 @@ pub fn lower_near(
     rows: usize,
     cols: usize,
     cell: Cell,
-    rowspan: Span,
-    colspan: Span,
+    spans: Spans,
 )
-    requires { (OnPlane weights.old rows cols cell) × (Nearby rows cols cell rowspan colspan) }
+    requires { (OnPlane weights.old rows cols cell) × (Nearby rows cols cell spans.rows spans.cols) }
     ensures { after weights ≡ lowered (flat rows cols) (entry_of cols cell) (before weights) }
 {
-    let mut row = rowspan.0;
-    while row < rowspan.1 {
-        let from = row * cols + colspan.0;
-        let to = row * cols + colspan.1;
-        lower_row(&mut weights[from..to], cell, row, colspan.0);
+    let mut row = spans.rows.0;
+    while row < spans.rows.1 {
+        let from = row * cols + spans.cols.0;
+        let to = row * cols + spans.cols.1;
+        lower_row(&mut weights[from..to], cell, row, spans.cols.0);
         row += 1;
     }
 }

@@ -6,8 +6,9 @@ use Rattle.base.proofs.Chain.{gives-coincide}
 use Rattle.rules.specs.Board.{Panel, Board}
 use Rattle.rules.specs.Promises.{Widens}
 use Rattle.rules.specs.declared.Pads.{Pads}
-use Rattle.rules.specs.declared.WidenAnswer.{WidenAnswer}
+use Rattle.rules.specs.Answers.{Answer}
+use Rattle.rules.specs.declared.Offset.{Offset}
 
-pub widen-coincide : (j : Panel) (count : ℕ) (p : Pads) (old lent : Board) {a c : WidenAnswer} {l m : Board}
+pub widen-coincide : (j : Panel) (count : ℕ) (p : Pads) (old lent : Board) {a c : Answer Offset} {l m : Board}
     → Widens j count p old lent a l → Widens j count p old lent c m → (a ≡ c) × (l ≡ m)
 widen-coincide j count p old lent g h = gives-coincide g h

@@ -23,7 +23,6 @@ use Rattle.rules.specs.Widening.{widened_pieces, widened_weights, widened, widen
 use Rattle.rules.specs.Promises.{board, panel}
 use Rattle.rules.specs.declared.Offset.{Offset}
 use Rattle.rules.specs.declared.Pads.{Pads}
-use Rattle.rules.specs.declared.WidenAnswer.TheVariants as WidenAnswer·
 use Rattle.check_sizes.proofs.Sides.{board-rows, board-cols, long}
 use Rattle.fit_windows.specs.Ready.{Countable}
 use Rattle.fit_windows.proofs.Accepted.{ready-from}

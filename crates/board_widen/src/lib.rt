@@ -18,10 +18,10 @@ ghost use Rattle.board_widen.specs.Wide.{Weighable, weight_after};
 use board_planes::fill;
 use board_recount::recount_near;
 use board_weigh::weight_at;
-use board_widen_checks::widen_refused;
+use board_widen_checks::check_widen;
 use copy_words::lay_rows_u32;
 use place_extension::offset_after;
-use rules::{Cell, Offset, Pads, Span, WidenAnswer};
+use rules::{Cell, Offset, Pads, Refusal, Span};
 
 // Pieces keep their wall coordinates; new cells are bare.
 fn move_pieces(widepieces: &mut [u32], pieces: &[u32], rows: usize, cols: usize, pads: Pads)
@@ -35,7 +35,7 @@ fn move_pieces(widepieces: &mut [u32], pieces: &[u32], rows: usize, cols: usize,
 fn is_between(from: usize, to: usize, x: usize) -> bool
     ensures { result ≡ between from to x }
 {
-    if from <= x { x < to } else { false }
+    from <= x && x < to
 }
 
 // The cell (row, col) of the larger grid is an old one.
@@ -43,11 +43,7 @@ fn is_old(rows: usize, cols: usize, pads: Pads, row: usize, col: usize) -> bool
     requires { (new_rows rows pads ≤ max_board_side) × (new_cols cols pads ≤ max_board_side) }
     ensures { result ≡ inside pads.left (pads.left + rows) pads.top (pads.top + cols) row col }
 {
-    if is_between(pads.left, pads.left + rows, row) {
-        is_between(pads.top, pads.top + cols, col)
-    } else {
-        false
-    }
+    is_between(pads.left, pads.left + rows, row) && is_between(pads.top, pads.top + cols, col)
 }
 
 // The weight of entry k of the larger plane: an old cell keeps its weight, a new one follows demand 3's formula from the pieces.
@@ -139,11 +135,11 @@ pub fn widen(
     tiles: &[u8],
     count: u32,
     offset: Offset,
-) -> WidenAnswer
+) -> Result<Offset, Refusal>
     ensures { Widens (panel rows cols tiles.now offset) count pads (board pieces.now weights.now counts.now)
         (board_before widepieces wideweights widecounts) result (board_after widepieces wideweights widecounts) }
 {
-    let no = widen_refused(
+    check_widen(
         widepieces,
         wideweights,
         widecounts,
@@ -156,12 +152,9 @@ pub fn widen(
         tiles,
         count,
         offset,
-    );
-    if no != 0 {
-        return WidenAnswer::Refused(no);
-    }
+    )?;
     move_pieces(widepieces, pieces, rows, cols, pads);
     move_weights(wideweights, widepieces, weights, rows, cols, pads);
     count_all(widecounts, widepieces, rows, cols, pads, tiles);
-    WidenAnswer::Widened(offset_after(offset, pads))
+    Ok(offset_after(offset, pads))
 }

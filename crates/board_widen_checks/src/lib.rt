@@ -3,7 +3,7 @@
 #![tactic(auto)]
 
 ghost use Rattle.std.specs.Prelude.{◌≡◌, true, ◌≤◌};
-ghost use Rattle.base.specs.Refusal.{refusal};
+ghost use Rattle.rules.specs.Answers.{checked};
 ghost use Rattle.rules.specs.Bounds.{max_board_side};
 ghost use Rattle.rules.specs.Tests.{board_sides, whole_tiles};
 ghost use Rattle.rules.specs.Places.{new_rows, new_cols};
@@ -11,29 +11,29 @@ ghost use Rattle.rules.specs.Widening.{widen_checks};
 ghost use Rattle.rules.specs.Promises.{board, panel};
 ghost use Rattle.board_widen_checks.specs.Suffix.{offset_checks, held_checks, lent_checks};
 
-use board_planes::{contents_refused, planes_refused};
+use board_planes::{check_cells, check_planes};
 use check_sizes::{board_sides, cells_of, whole_tiles};
 use copy_checks::{larger_cells, larger_sides};
 use place_extension::offset_after;
 use places::offset_fits;
-use rules::{Offset, Pads};
+use rules::{Offset, Pads, Refusal};
 
-// PLACE of the offset, then of the new one, which follows `calculate_extension`; 0 where both pass.
-fn offsets_refused(offset: Offset, pads: Pads) -> u8
+// PLACE of the offset, then of the new one, which follows `calculate_extension`.
+fn check_offsets(offset: Offset, pads: Pads) -> Result<(), Refusal>
     requires { (pads.left ≤ max_board_side) × (pads.top ≤ max_board_side) }
-    ensures { result ≡ refusal (offset_checks offset pads) }
+    ensures { result ≡ checked (offset_checks offset pads) }
 {
     if !offset_fits(offset) {
-        return rules::PLACE;
+        return Err(Refusal::Place);
     }
     if !offset_fits(offset_after(offset, pads)) {
-        return rules::PLACE;
+        return Err(Refusal::Place);
     }
-    0
+    Ok(())
 }
 
-// COUNT and CELL of the board, then PLACE of the offsets; 0 where all pass.
-fn held_refused(
+// COUNT and CELL of the board, then PLACE of the offsets.
+fn check_held(
     pieces: &[u32],
     weights: &[u32],
     counts: &[u32],
@@ -41,20 +41,17 @@ fn held_refused(
     count: u32,
     offset: Offset,
     pads: Pads,
-) -> u8
+) -> Result<(), Refusal>
     requires { (whole_tiles tiles.now ≡ true) × (pads.left ≤ max_board_side) × (pads.top ≤ max_board_side) }
-    ensures { result ≡ refusal (held_checks tiles.now offset count (board pieces.now weights.now counts.now) pads) }
+    ensures { result ≡ checked (held_checks tiles.now offset count (board pieces.now weights.now counts.now) pads) }
 {
     let n = tiles.len() / rules::TILE_CELLS;
-    let no = contents_refused(pieces, weights, counts, tiles, count, n);
-    if no != 0 {
-        return no;
-    }
-    offsets_refused(offset, pads)
+    check_cells(pieces, weights, counts, tiles, count, n)?;
+    check_offsets(offset, pads)
 }
 
-// LENGTH of the board, of the tiles and of the larger planes, then the others; 0 where all pass.
-fn lent_refused(
+// LENGTH of the board, of the tiles and of the larger planes, then the others.
+fn check_lent(
     widepieces: &[u32],
     wideweights: &[u32],
     widecounts: &[u32],
@@ -67,32 +64,26 @@ fn lent_refused(
     tiles: &[u8],
     count: u32,
     offset: Offset,
-) -> u8
+) -> Result<(), Refusal>
     requires { (board_sides rows cols ≡ true) × (board_sides (new_rows rows pads) (new_cols cols pads) ≡ true) }
-    ensures { result ≡ refusal (lent_checks (panel rows cols tiles.now offset) count (board pieces.now weights.now counts.now)
+    ensures { result ≡ checked (lent_checks (panel rows cols tiles.now offset) count (board pieces.now weights.now counts.now)
         pads (board widepieces.now wideweights.now widecounts.now)) }
 {
-    let held = planes_refused(pieces, weights, counts, cells_of(rows, cols));
-    if held != 0 {
-        return held;
-    }
+    check_planes(pieces, weights, counts, cells_of(rows, cols))?;
     if !whole_tiles(tiles) {
-        return rules::LENGTH;
+        return Err(Refusal::Length);
     }
-    let room = planes_refused(
+    check_planes(
         widepieces,
         wideweights,
         widecounts,
         larger_cells(rows, cols, pads),
-    );
-    if room != 0 {
-        return room;
-    }
-    held_refused(pieces, weights, counts, tiles, count, offset, pads)
+    )?;
+    check_held(pieces, weights, counts, tiles, count, offset, pads)
 }
 
-// All checks, SHAPE of the sides and of the new ones first; 0 where all pass.
-pub fn widen_refused(
+// All checks, SHAPE of the sides and of the new ones first.
+pub fn check_widen(
     widepieces: &[u32],
     wideweights: &[u32],
     widecounts: &[u32],
@@ -105,17 +96,17 @@ pub fn widen_refused(
     tiles: &[u8],
     count: u32,
     offset: Offset,
-) -> u8
-    ensures { result ≡ refusal (widen_checks (panel rows cols tiles.now offset) count (board pieces.now weights.now counts.now)
+) -> Result<(), Refusal>
+    ensures { result ≡ checked (widen_checks (panel rows cols tiles.now offset) count (board pieces.now weights.now counts.now)
         pads (board widepieces.now wideweights.now widecounts.now)) }
 {
     if !board_sides(rows, cols) {
-        return rules::SHAPE;
+        return Err(Refusal::Shape);
     }
     if !larger_sides(rows, cols, pads) {
-        return rules::SHAPE;
+        return Err(Refusal::Shape);
     }
-    lent_refused(
+    check_lent(
         widepieces,
         wideweights,
         widecounts,

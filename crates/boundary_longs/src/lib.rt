@@ -6,63 +6,63 @@ ghost use Rattle.rules.specs.Promises.{before, after};
 ghost use Rattle.boundary.specs.Boundary.{ran_stored, TellsCount, TellsFraction, TellsSpans, TellsTiles, TellsDeadEnd, TellsRun};
 
 use boundary_slots::{put_float, put_long};
-use rules::{CountAnswer, DeadEnd, FractionAnswer, RunAnswer, SpanAnswer, TileNumber};
+use rules::{Cell, RanOut, Refusal, Spans};
 
-pub fn extracted(answer: TileNumber, out: &mut [u64]) -> u32
+pub fn extracted(answer: Result<usize, Refusal>, out: &mut [u64]) -> u32
     ensures { TellsTiles answer (before out) result (after out) }
 {
     match answer {
-        TileNumber::Tiles(tiles) => {
+        Ok(tiles) => {
             put_long(out, 0, tiles as u64);
             0
         }
-        TileNumber::Refused(n) => n as u32,
+        Err(n) => n as u32,
     }
 }
 
-pub fn scanned(answer: DeadEnd, out: &mut [u64]) -> u32
+pub fn scanned(answer: Result<Option<Cell>, Refusal>, out: &mut [u64]) -> u32
     ensures { TellsDeadEnd answer (before out) result (after out) }
 {
     match answer {
-        DeadEnd::At(cell) => {
+        Ok(Some(cell)) => {
             put_long(out, 0, 1);
             put_long(out, 1, cell.0 as u64);
             put_long(out, 2, cell.1 as u64);
             0
         }
-        DeadEnd::Nowhere => {
+        Ok(None) => {
             put_long(out, 0, 0);
             0
         }
-        DeadEnd::Refused(n) => n as u32,
+        Err(n) => n as u32,
     }
 }
 
-pub fn counted(answer: CountAnswer, out: &mut [u64]) -> u32
+pub fn counted(answer: Result<usize, Refusal>, out: &mut [u64]) -> u32
     ensures { TellsCount answer (before out) result (after out) }
 {
     match answer {
-        CountAnswer::Is(k) => {
+        Ok(k) => {
             put_long(out, 0, k as u64);
             0
         }
-        CountAnswer::Refused(n) => n as u32,
+        Err(n) => n as u32,
     }
 }
 
-pub fn divided(answer: FractionAnswer, out: &mut [f64]) -> u32
+pub fn divided(answer: Result<f64, Refusal>, out: &mut [f64]) -> u32
     ensures { TellsFraction answer (before out) result (after out) }
 {
     match answer {
-        FractionAnswer::Is(x) => {
+        Ok(x) => {
             put_float(out, 0, x);
             0
         }
-        FractionAnswer::Refused(n) => n as u32,
+        Err(n) => n as u32,
     }
 }
 
-pub fn spanned(answer: SpanAnswer, out: &mut [u64]) -> u32
+pub fn spanned(answer: Result<Spans, Refusal>, out: &mut [u64]) -> u32
     ensures { TellsSpans answer (before out) result (after out) }
 {
     match answer {
@@ -73,7 +73,7 @@ pub fn spanned(answer: SpanAnswer, out: &mut [u64]) -> u32
             put_long(out, 3, cols.1 as u64);
             0
         }
-        SpanAnswer::Refused(n) => n as u32,
+        Err(n) => n as u32,
     }
 }
 
@@ -85,7 +85,7 @@ fn put_run(out: &mut [u64], end: u64, taken: usize, laid: usize)
     put_long(out, 2, laid as u64);
 }
 
-pub fn ran(answer: RunAnswer, out: &mut [u64]) -> u32
+pub fn ran(answer: Result<RanOut, Refusal>, out: &mut [u64]) -> u32
     ensures { TellsRun answer (before out) result (after out) }
 {
     match answer {
@@ -101,6 +101,6 @@ pub fn ran(answer: RunAnswer, out: &mut [u64]) -> u32
             put_run(out, 2, taken, laid);
             0
         }
-        RunAnswer::Refused(n) => n as u32,
+        Err(n) => n as u32,
     }
 }

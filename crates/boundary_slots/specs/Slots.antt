@@ -6,9 +6,8 @@ use Rattle.rules.specs.declared.World.{World}
 use Rattle.rules.specs.declared.Offset.{Offset}
 use Rattle.rules.specs.declared.Span.{Span}
 use Rattle.rules.specs.declared.Pads.{Pads}
-use Rattle.rules.specs.declared.GenerationBounds.{GenerationBounds}
-use Rattle.rules.specs.declared.GenerationBounds.TheVariants.{Unbounded, Within}
 use Rattle.rules.specs.declared.TileBitset.{TileBitset}
+use Rattle.rules.specs.declared.BoundingBox.{BoundingBox}
 
 -- ---- what goes in
 
@@ -19,7 +18,7 @@ abbrev pub offset_by : ℤ → ℤ → Offset
 offset_by row col = record { 0 = row; 1 = col }
 
 -- the box of two corners, or none
-unfoldable pub bounds_from : Bool → World → World → GenerationBounds
+unfoldable pub bounds_from : Bool → World → World → Option BoundingBox
 bounds_from within least most = pick within (Within (record { min = least; max = most })) Unbounded
 
 abbrev pub span_from : ℕ → ℕ → Span

@@ -6,7 +6,7 @@ ghost use Rattle.std.specs.Prelude.{◌≡◌};
 ghost use Rattle.rules.specs.Promises.{before, after};
 ghost use Rattle.boundary_slots.specs.Slots.{put, world, offset_by, bounds_from, offset_stored, digit_of};
 
-use rules::{BoundingBox, GenerationBounds, Offset, World};
+use rules::{BoundingBox, Offset, World};
 
 pub fn put_word(words: &mut [u32], at: usize, word: u32)
     ensures { after words ≡ put (before words) at word }
@@ -68,7 +68,7 @@ pub fn offset_at(row: i32, col: i32) -> Offset
 }
 
 // A box that is given by its corners, or none.
-pub fn bounds_from(within: bool, least: World, most: World) -> GenerationBounds
+pub fn bounds_from(within: bool, least: World, most: World) -> Option<BoundingBox>
     ensures { result ≡ bounds_from within least most }
 {
     if within {
@@ -76,9 +76,9 @@ pub fn bounds_from(within: bool, least: World, most: World) -> GenerationBounds
             min: least,
             max: most,
         };
-        return GenerationBounds::Within(corners);
+        return Some(corners);
     }
-    GenerationBounds::Unbounded
+    None
 }
 
 pub fn digit(truth: bool) -> u32

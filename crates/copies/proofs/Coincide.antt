@@ -7,12 +7,12 @@ use lib.Ieee.{Float}
 use Rattle.base.proofs.Chain.{gives-coincide}
 use Rattle.rules.specs.Promises.{CopiesWords, CopiesFloats}
 use Rattle.rules.specs.declared.Pads.{Pads}
-use Rattle.rules.specs.declared.Written.{Written}
+use Rattle.rules.specs.Answers.{Answer}
 
-pub extend-array-2d-u32 : (rows cols : ℕ) (p : Pads) (plane target : List ℕ) {r s : Written} {u v : List ℕ}
+pub extend-array-2d-u32 : (rows cols : ℕ) (p : Pads) (plane target : List ℕ) {r s : Answer Unit} {u v : List ℕ}
     → CopiesWords rows cols p plane target r u → CopiesWords rows cols p plane target s v → (r ≡ s) × (u ≡ v)
 extend-array-2d-u32 rows cols p plane target g h = gives-coincide g h
 
-pub extend-array-2d-f64 : (rows cols : ℕ) (p : Pads) (plane target : List Float) {r s : Written} {u v : List Float}
+pub extend-array-2d-f64 : (rows cols : ℕ) (p : Pads) (plane target : List Float) {r s : Answer Unit} {u v : List Float}
     → CopiesFloats rows cols p plane target r u → CopiesFloats rows cols p plane target s v → (r ≡ s) × (u ≡ v)
 extend-array-2d-f64 rows cols p plane target g h = gives-coincide g h

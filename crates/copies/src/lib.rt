@@ -4,10 +4,10 @@
 
 ghost use Rattle.rules.specs.Promises.{before, after, CopiesWords, CopiesFloats};
 
-use copy_checks::copy_refused;
+use copy_checks::check_copy;
 use copy_floats::{fill_f64, lay_rows_f64};
 use copy_words::{fill_u32, lay_rows_u32};
-use rules::{Pads, Written};
+use rules::{Pads, Refusal};
 
 // A plane of pieces, weights or counts; it may hold any numbers.
 pub fn extend_array_2d_u32(
@@ -16,16 +16,13 @@ pub fn extend_array_2d_u32(
     rows: usize,
     cols: usize,
     pads: Pads,
-) -> Written
+) -> Result<(), Refusal>
     ensures { CopiesWords rows cols pads plane.now (before target) result (after target) }
 {
-    let refused = copy_refused(rows, cols, pads, plane.len(), target.len());
-    if refused != 0 {
-        return Written::Refused(refused);
-    }
+    check_copy(rows, cols, pads, plane.len(), target.len())?;
     fill_u32(target);
     lay_rows_u32(target, plane, rows, cols, pads);
-    Written::Done
+    Ok(())
 }
 
 // A plane of probabilities or scores, which are copied bit by bit.
@@ -35,17 +32,14 @@ pub fn extend_array_2d_f64(
     rows: usize,
     cols: usize,
     pads: Pads,
-) -> Written
+) -> Result<(), Refusal>
     ensures { CopiesFloats rows cols pads plane.now (before target) result (after target) }
 {
-    let refused = copy_refused(rows, cols, pads, plane.len(), target.len());
-    if refused != 0 {
-        return Written::Refused(refused);
-    }
+    check_copy(rows, cols, pads, plane.len(), target.len())?;
     if !check_contents::all_numbers(plane) {
-        return Written::Refused(rules::NUMBER);
+        return Err(Refusal::Number);
     }
     fill_f64(target);
     lay_rows_f64(target, plane, rows, cols, pads);
-    Written::Done
+    Ok(())
 }

@@ -3,13 +3,13 @@
 
 ghost use Rattle.std.specs.Prelude.{◌≡◌, true, ◌+◌, ◌*◌};
 ghost use Rattle.base.specs.Counting.{within};
-ghost use Rattle.base.specs.Refusal.{refusal};
+ghost use Rattle.rules.specs.Answers.{checked};
 ghost use Rattle.rules.specs.Bounds.{max_board_side};
 ghost use Rattle.rules.specs.Tests.{board_sides};
 ghost use Rattle.rules.specs.Places.{new_rows, new_cols};
 ghost use Rattle.copy_checks.specs.Laid.{size_checks};
 
-use rules::Pads;
+use rules::{Pads, Refusal};
 
 // The side that two pads make is a board side. Pads are any numbers: their sum is taken only where each is small.
 fn side_fits(before: usize, side: usize, after: usize) -> bool
@@ -25,21 +25,13 @@ fn side_fits(before: usize, side: usize, after: usize) -> bool
         return false;
     }
     let sum = before + side + after;
-    if 1 <= sum {
-        sum <= rules::MAX_BOARD_SIDE
-    } else {
-        false
-    }
+    1 <= sum && sum <= rules::MAX_BOARD_SIDE
 }
 
 pub fn larger_sides(rows: usize, cols: usize, pads: Pads) -> bool
     ensures { result ≡ board_sides (new_rows rows pads) (new_cols cols pads) }
 {
-    if side_fits(pads.left, rows, pads.right) {
-        side_fits(pads.top, cols, pads.bottom)
-    } else {
-        false
-    }
+    side_fits(pads.left, rows, pads.right) && side_fits(pads.top, cols, pads.bottom)
 }
 
 // How many cells the larger plane has.
@@ -50,21 +42,21 @@ pub fn larger_cells(rows: usize, cols: usize, pads: Pads) -> usize
     check_sizes::cells_of(pads.left + rows + pads.right, pads.top + cols + pads.bottom)
 }
 
-// The checks of both calls, on a plane of `held` cells and a target with room for `room`; 0 where all pass.
-pub fn copy_refused(rows: usize, cols: usize, pads: Pads, held: usize, room: usize) -> u8
-    ensures { result ≡ refusal (size_checks rows cols pads held room) }
+// The checks of both calls, on a plane of `held` cells and a target with room for `room`.
+pub fn check_copy(rows: usize, cols: usize, pads: Pads, held: usize, room: usize) -> Result<(), Refusal>
+    ensures { result ≡ checked (size_checks rows cols pads held room) }
 {
     if !check_sizes::board_sides(rows, cols) {
-        return rules::SHAPE;
+        return Err(Refusal::Shape);
     }
     if !larger_sides(rows, cols, pads) {
-        return rules::SHAPE;
+        return Err(Refusal::Shape);
     }
     if held != check_sizes::cells_of(rows, cols) {
-        return rules::LENGTH;
+        return Err(Refusal::Length);
     }
     if room != larger_cells(rows, cols, pads) {
-        return rules::LENGTH;
+        return Err(Refusal::Length);
     }
-    0
+    Ok(())
 }

@@ -6,9 +6,9 @@ use lib.IntN.{ℤ}
 use lib.Ieee.{Float}
 use Rattle.rules.specs.Board.{Board}
 use Rattle.rules.specs.declared.Pads.{Pads}
-use Rattle.rules.specs.declared.GenerationBounds.{GenerationBounds}
 use Rattle.boundary.proofs.Back.{Decides, gives-decides, numbered-decides}
 use Rattle.desk.specs.Desk.{DeskLists, DeskLays, DeskLifts, DeskRuns, DeskWidens, DeskScores, DeskScoresNear}
+use Rattle.rules.specs.declared.BoundingBox.{BoundingBox}
 
 module _ (rows cols : ℕ) (tiles : List ℕ) (count : ℕ) (row col down across : ℤ) where
   pub fitting-coincide : (pieces found : List ℕ) → Decides (DeskLists pieces rows cols tiles count row col down across found)
@@ -20,7 +20,7 @@ module _ (rows cols : ℕ) (tiles : List ℕ) (count : ℕ) (row col down across
   pub lift-coincide : (old : Board) → Decides (DeskLifts rows cols tiles count row col down across old)
   lift-coincide old = numbered-decides _ _ (gives-decides _ _)
 
-  pub run-coincide : (bounds : GenerationBounds) (budget : ℕ) (old : Board) (ran : List ℕ) → Decides (DeskRuns rows cols tiles count row col down across bounds budget old ran)
+  pub run-coincide : (bounds : Option BoundingBox) (budget : ℕ) (old : Board) (ran : List ℕ) → Decides (DeskRuns rows cols tiles count row col down across bounds budget old ran)
   run-coincide bounds budget old ran = gives-decides _ _
 
 pub widen-coincide : (rows cols : ℕ) (p : Pads) (tiles : List ℕ) (count : ℕ) (down across : ℤ) (old lent : Board) (offset : List ℤ)

@@ -9,18 +9,18 @@ use Rattle.rules.specs.Widening.{widening, after_widen}
 use Rattle.rules.specs.ForcedRun.{running, after_run}
 use Rattle.rules.specs.Promises.{panel, Lays, Lifts, ScoresPlain, ScoresWhole}
 use Rattle.rules.specs.declared.Pads.{Pads}
-use Rattle.rules.specs.declared.GenerationBounds.{GenerationBounds}
-use Rattle.rules.specs.declared.Listing.{Listing}
-use Rattle.rules.specs.declared.Listing.TheVariants as Listing·
 use Rattle.boundary_slots.specs.Slots.{put, world, offset_by, span_from}
 use Rattle.boundary.specs.Boundary.{Numbered, written_number, listing_number, lay_number, lift_number, run_number, run_left, widen_number, widen_left}
+use Rattle.rules.specs.Answers.{Answer}
+use Rattle.rules.specs.declared.BoundingBox.{BoundingBox}
+use Rattle.rules.specs.declared.TileBitset.{TileBitset}
 
 -- what a listing leaves in the entries lent for it: the set of colours in the first, colour t as bit t-1; nothing where it is refused
-abbrev pub colours_left : Listing → List ℕ → List ℕ
+abbrev pub colours_left : Answer TileBitset → List ℕ → List ℕ
 colours_left (Listing·.Colours s) found = put found 0 s.bits
 colours_left (Listing·.Refused n) found = found
 
-abbrev pub TellsColours : Listing → List ℕ → ℕ → List ℕ → Type 0
+abbrev pub TellsColours : Answer TileBitset → List ℕ → ℕ → List ℕ → Type 0
 TellsColours answer found = Gives (listing_number answer) (colours_left answer found)
 
 abbrev pub DeskLists : List ℕ → ℕ → ℕ → List ℕ → ℕ → ℤ → ℤ → ℤ → ℤ → List ℕ → ℕ → List ℕ → Type 0
@@ -43,7 +43,7 @@ pub record Ran : Type 0 where
 abbrev pub ran_with : Board → List ℕ → Ran
 ran_with planes ran = record { planes = planes; ran = ran }
 
-abbrev pub DeskRuns : ℕ → ℕ → List ℕ → ℕ → ℤ → ℤ → ℤ → ℤ → GenerationBounds → ℕ → Board → List ℕ → ℕ → Ran → Type 0
+abbrev pub DeskRuns : ℕ → ℕ → List ℕ → ℕ → ℤ → ℤ → ℤ → ℤ → Option BoundingBox → ℕ → Board → List ℕ → ℕ → Ran → Type 0
 DeskRuns rows cols tiles count row col down across bounds budget old out =
     let j = panel rows cols tiles (offset_by down across) in
     let answer = running j count old (world row col) bounds budget in

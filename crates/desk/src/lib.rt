@@ -9,19 +9,19 @@ ghost use Rattle.desk.specs.Desk.{TellsColours, DeskLists, DeskLays, DeskLifts, 
 
 use boundary::{laid, lifted, widened, written};
 use boundary_slots::{bounds_from, offset_at, put_long, world_at};
-use rules::{Listing, Pads, Span};
+use rules::{Pads, Refusal, Span, TileBitset};
 
 // The set goes over in one entry of 64 bits, so that sets of up to 64 colours leave the C side as it is; further entries are for what a
 // listing may tell one day beside its colours.
-fn found_colours(answer: Listing, found: &mut [u64]) -> u32
+fn found_colours(answer: Result<TileBitset, Refusal>, found: &mut [u64]) -> u32
     ensures { TellsColours answer (before found) result (after found) }
 {
     match answer {
-        Listing::Colours(set) => {
+        Ok(set) => {
             put_long(found, 0, set.bits as u64);
             0
         }
-        Listing::Refused(n) => n as u32,
+        Err(n) => n as u32,
     }
 }
 

@@ -3,28 +3,28 @@
 #![tactic(auto)]
 
 ghost use Rattle.std.specs.Prelude.{◌≡◌, ◌<◌, ◌≤◌, length};
-ghost use Rattle.base.specs.Refusal.{refusal};
+ghost use Rattle.rules.specs.Answers.{checked};
 ghost use Rattle.rules.specs.Bounds.{max_tiles};
 ghost use Rattle.rules.specs.Grid.{on_grid, flat};
 ghost use Rattle.rules.specs.Fit.{pieces_checks, listing, region_count};
 ghost use Rattle.rules.specs.Scores.{fraction, fraction_checks, fraction_at};
 
-use rules::{Cell, CountAnswer, FractionAnswer, Listing, Offset, World};
+use rules::{Cell, Offset, Refusal, TileBitset, World};
 
-// The refusal of pieces and tiles, 0 where there is none.
-pub fn pieces_refused(pieces: &[u32], rows: usize, cols: usize, tiles: &[u8], count: u32) -> u8
-    ensures { result ≡ refusal (pieces_checks pieces.now rows cols tiles.now count) }
+// The checks of pieces and tiles.
+pub fn check_pieces(pieces: &[u32], rows: usize, cols: usize, tiles: &[u8], count: u32) -> Result<(), Refusal>
+    ensures { result ≡ checked (pieces_checks pieces.now rows cols tiles.now count) }
 {
     if !check_sizes::board_sides(rows, cols) {
-        return rules::SHAPE;
+        return Err(Refusal::Shape);
     }
-    if !check_sizes::words_have_length(pieces, check_sizes::cells_of(rows, cols)) {
-        return rules::LENGTH;
+    if !check_sizes::has_length(pieces, check_sizes::cells_of(rows, cols)) {
+        return Err(Refusal::Length);
     }
     if !check_sizes::whole_tiles(tiles) {
-        return rules::LENGTH;
+        return Err(Refusal::Length);
     }
-    check_contents::colours_refused(tiles, count, pieces)
+    check_contents::check_colours(tiles, count, pieces)
 }
 
 // The colours that fit at a place.
@@ -36,17 +36,11 @@ pub fn compute_viable_tiles_at_position(
     count: u32,
     place: World,
     offset: Offset,
-) -> Listing
+) -> Result<TileBitset, Refusal>
     ensures { result ≡ listing flat pieces.now rows cols tiles.now count place offset }
 {
-    let refused = pieces_refused(pieces, rows, cols, tiles, count);
-    if refused != 0 {
-        return Listing::Refused(refused);
-    }
-    let misplaced = places::place_refused(rows, cols, place, offset);
-    if misplaced != 0 {
-        return Listing::Refused(misplaced);
-    }
+    check_pieces(pieces, rows, cols, tiles, count)?;
+    places::check_place(rows, cols, place, offset)?;
     fit_windows::viable_tiles_at(
         pieces,
         rows,
@@ -60,7 +54,7 @@ pub fn compute_viable_tiles_at_position(
 fn on_grid(rows: usize, cols: usize, cell: Cell) -> bool
     ensures { result ≡ on_grid rows cols cell }
 {
-    if cell.0 < rows { cell.1 < cols } else { false }
+    cell.0 < rows && cell.1 < cols
 }
 
 // How many tiles fit the region that starts at a cell; past the edge it is bare.
@@ -71,38 +65,35 @@ pub fn count_fitting(
     tiles: &[u8],
     count: u32,
     start: Cell,
-) -> CountAnswer
+) -> Result<usize, Refusal>
     ensures { result ≡ region_count flat pieces.now rows cols tiles.now count start }
 {
-    let refused = pieces_refused(pieces, rows, cols, tiles, count);
-    if refused != 0 {
-        return CountAnswer::Refused(refused);
-    }
+    check_pieces(pieces, rows, cols, tiles, count)?;
     if !on_grid(rows, cols, start) {
-        return CountAnswer::Refused(rules::PLACE);
+        return Err(Refusal::Place);
     }
-    CountAnswer::Is(fit_windows::fit_count_at(pieces, rows, cols, tiles, start.0, start.1) as usize)
+    Ok(fit_windows::fit_count_at(pieces, rows, cols, tiles, start.0, start.1) as usize)
 }
 
-fn fraction_refused(counts: &[u32], rows: usize, cols: usize, tiles: usize, cell: Cell) -> u8
-    ensures { result ≡ refusal (fraction_checks counts.now rows cols tiles cell) }
+fn check_fraction(counts: &[u32], rows: usize, cols: usize, tiles: usize, cell: Cell) -> Result<(), Refusal>
+    ensures { result ≡ checked (fraction_checks counts.now rows cols tiles cell) }
 {
     if !check_sizes::board_sides(rows, cols) {
-        return rules::SHAPE;
+        return Err(Refusal::Shape);
     }
-    if !check_sizes::words_have_length(counts, check_sizes::cells_of(rows, cols)) {
-        return rules::LENGTH;
+    if !check_sizes::has_length(counts, check_sizes::cells_of(rows, cols)) {
+        return Err(Refusal::Length);
     }
     if !check_sizes::tile_number_fits(tiles) {
-        return rules::LENGTH;
+        return Err(Refusal::Length);
     }
     if !check_contents::no_word_above(counts, tiles as u32) {
-        return rules::CELL;
+        return Err(Refusal::Cell);
     }
     if !on_grid(rows, cols, cell) {
-        return rules::PLACE;
+        return Err(Refusal::Place);
     }
-    0
+    Ok(())
 }
 
 // One rounded division.
@@ -120,12 +111,9 @@ pub fn get_fraction(
     cols: usize,
     tiles: usize,
     cell: Cell,
-) -> FractionAnswer
+) -> Result<f64, Refusal>
     ensures { result ≡ fraction_at counts.now rows cols tiles cell }
 {
-    let refused = fraction_refused(counts, rows, cols, tiles, cell);
-    if refused != 0 {
-        return FractionAnswer::Refused(refused);
-    }
-    FractionAnswer::Is(fraction_of(counts, tiles, cell.0 * cols + cell.1))
+    check_fraction(counts, rows, cols, tiles, cell)?;
+    Ok(fraction_of(counts, tiles, cell.0 * cols + cell.1))
 }

@@ -2,7 +2,7 @@
 // program's example.
 #![tactic(auto)]
 
-use rules::{Cell, CountAnswer, FractionAnswer, Listing, Offset, World};
+use rules::{Cell, Offset, World};
 use std::io;
 
 const CHEQUER: [u8; 18] = [1, 2, 1, 2, 1, 2, 1, 2, 1, 2, 1, 2, 1, 2, 1, 2, 1, 2];
@@ -62,8 +62,8 @@ fn list(
         Offset(0, 0),
     );
     match answer {
-        Listing::Colours(set) => colours(rt, set.bits),
-        Listing::Refused(n) => refused(rt, n),
+        Ok(set) => colours(rt, set.bits),
+        Err(n) => refused(rt, n),
     }
 }
 
@@ -78,12 +78,12 @@ fn count(
 ) -> io::Result<()> {
     let answer = fit::count_fitting(pieces, rows, cols, tiles, count, start);
     match answer {
-        CountAnswer::Is(n) => {
+        Ok(n) => {
             text(rt, b" fits ")?;
             digit(rt, n)?;
             text(rt, b"\n")
         }
-        CountAnswer::Refused(n) => refused(rt, n),
+        Err(n) => refused(rt, n),
     }
 }
 
@@ -97,14 +97,14 @@ fn share(
 ) -> io::Result<()> {
     let answer = fit::get_fraction(counts, rows, cols, tiles, cell);
     match answer {
-        FractionAnswer::Is(x) => {
+        Ok(x) => {
             if x == 0.5 {
                 text(rt, b" is a half\n")
             } else {
                 text(rt, b" is another number\n")
             }
         }
-        FractionAnswer::Refused(n) => refused(rt, n),
+        Err(n) => refused(rt, n),
     }
 }
 

@@ -9,21 +9,21 @@ use Rattle.rules.specs.Grid.{Kind}
 use Rattle.rules.specs.Forced.{forced_round, positions_of, forced_checks, forced_neighbours}
 use Rattle.rules.specs.declared.World.{World}
 use Rattle.rules.specs.declared.Offset.{Offset}
-use Rattle.rules.specs.declared.GenerationBounds.{GenerationBounds}
 use Rattle.rules.specs.declared.ForcedPosition.{ForcedPosition}
 use Rattle.rules.specs.declared.ForcedPositions.{ForcedPositions}
-use Rattle.rules.specs.declared.ForcedAnswer.{ForcedAnswer}
 use Rattle.fit_windows.proofs.Accepted.{ready-from}
 use Rattle.fit_forced.specs.Round.{Roundable}
+use Rattle.rules.specs.Answers.{Answer}
+use Rattle.rules.specs.declared.BoundingBox.{BoundingBox}
 
-module _ (pieces : List ℕ) (rows cols : ℕ) (tiles : List ℕ) (count : ℕ) (w : World) (o : Offset) (b : GenerationBounds) where
+module _ (pieces : List ℕ) (rows cols : ℕ) (tiles : List ℕ) (count : ℕ) (w : World) (o : Offset) (b : Option BoundingBox) where
   pub roundable : refusal (forced_checks pieces rows cols tiles count w o b) ≡ 0 → Roundable pieces rows cols tiles count w
   roundable e =
       let h = all_pass (forced_checks pieces rows cols tiles count w o b) refl e in
       record { ready = ready-from pieces rows cols tiles count (search); walled = search }
 
   module _ (kind : Kind) where
-    abbrev answer : ℕ → ForcedPositions → ForcedAnswer
+    abbrev answer : ℕ → ForcedPositions → Answer ForcedPositions
     answer n found = record { refused = n; found = found }
 
     pub refused-is : (n : ℕ) (none : ForcedPositions) → n ≡ refusal (forced_checks pieces rows cols tiles count w o b) → (n ≡ 0 → ⊥)

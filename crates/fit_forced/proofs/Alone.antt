@@ -18,12 +18,12 @@ use Rattle.rules.specs.Fit.{lists}
 use Rattle.rules.specs.Forced.{admits, listed_at, only, forces_one, is_forced, forced_there}
 use Rattle.rules.specs.declared.World.{World}
 use Rattle.rules.specs.declared.Offset.{Offset}
-use Rattle.rules.specs.declared.GenerationBounds.{GenerationBounds}
 use Rattle.rules.specs.declared.Cell.{Cell}
 use Rattle.bitset_colours.proofs.Colours.{one_only}
 use Rattle.fit_forced.specs.Round.{only_at, forced_colour}
+use Rattle.rules.specs.declared.BoundingBox.{BoundingBox}
 
-module _ (kind : Kind) (pieces : List ℕ) (rows cols : ℕ) (tiles : List ℕ) (count : ℕ) (w : World) (o : Offset) (b : GenerationBounds) where
+module _ (kind : Kind) (pieces : List ℕ) (rows cols : ℕ) (tiles : List ℕ) (count : ℕ) (w : World) (o : Offset) (b : Option BoundingBox) where
   abbrev forced : Bool
   forced = is_forced kind pieces rows cols tiles count w o b
 

@@ -17,12 +17,12 @@ use Rattle.rules.specs.Grid.{Kind}
 use Rattle.rules.specs.Forced.{neighbour, is_forced, forced_there, forced_round, positions_of}
 use Rattle.rules.specs.declared.World.{World}
 use Rattle.rules.specs.declared.Offset.{Offset}
-use Rattle.rules.specs.declared.GenerationBounds.{GenerationBounds}
 use Rattle.rules.specs.declared.ForcedPosition.{ForcedPosition}
 use Rattle.rules.specs.declared.ForcedPositions.{ForcedPositions}
 use Rattle.fit_forced.specs.Round.{round_order, forced_colour, with_forced}
 use Rattle.fit_forced.proofs.Alone.{beside}
 use Rattle.fit_forced.proofs.Entries.{length_found}
+use Rattle.rules.specs.declared.BoundingBox.{BoundingBox}
 
 order-test : every 8 (λ i. ltb (get_or round_order i 0) 9) ≡ true
 unfolding every
@@ -39,7 +39,7 @@ skip-centre {A} test f =
     let at : ℕ → List A = λ d. pick (test d) (f d ∷ []) [] in
     ap (λ (l : List A). (((l ++ at 5) ++ at 6) ++ at 7) ++ at 8) (sym (append-nil (those 4 test f)))
 
-module _ (kind : Kind) (pieces : List ℕ) (rows cols : ℕ) (tiles : List ℕ) (count : ℕ) (w : World) (o : Offset) (b : GenerationBounds) where
+module _ (kind : Kind) (pieces : List ℕ) (rows cols : ℕ) (tiles : List ℕ) (count : ℕ) (w : World) (o : Offset) (b : Option BoundingBox) where
   abbrev pub test_at : ℕ → Bool
   test_at i = is_forced kind pieces rows cols tiles count (neighbour w (get_or round_order i 0)) o b
 

@@ -7,9 +7,9 @@ use Rattle.rules.specs.Grid.{entry_of, Shape, Kind, laid_on}
 use Rattle.rules.specs.Forced.{listed_at, only, is_forced}
 use Rattle.rules.specs.declared.World.{World}
 use Rattle.rules.specs.declared.Offset.{Offset}
-use Rattle.rules.specs.declared.GenerationBounds.{GenerationBounds}
 use Rattle.rules.specs.declared.ForcedPosition.{ForcedPosition}
 use Rattle.fit_windows.specs.Ready.{Ready}
+use Rattle.rules.specs.declared.BoundingBox.{BoundingBox}
 
 -- pieces, tiles and colours that are ready, and a place on the wall
 pub record Roundable (pieces : List ℕ) (rows cols : ℕ) (tiles : List ℕ) (count : ℕ) (place : World) : Type 0 where
@@ -25,7 +25,7 @@ abbrev pub only_at : Shape → List ℕ → List ℕ → ℕ → ℕ → ℕ
 only_at g tiles pieces count k = pick (laid_on pieces k) 0 (only (listed_at g tiles pieces count k))
 
 -- the colour that is forced at a place, 0 where none is
-unfoldable pub forced_colour : Kind → List ℕ → ℕ → ℕ → List ℕ → ℕ → World → Offset → GenerationBounds → ℕ
+unfoldable pub forced_colour : Kind → List ℕ → ℕ → ℕ → List ℕ → ℕ → World → Offset → Option BoundingBox → ℕ
 forced_colour kind pieces rows cols tiles count place offset b =
     pick (is_forced kind pieces rows cols tiles count place offset b)
     (only (listed_at (kind rows cols) tiles pieces count (entry_of cols (cell_of place offset))))

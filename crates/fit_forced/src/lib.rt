@@ -4,7 +4,7 @@
 
 ghost use Rattle.std.specs.Prelude.{◌≡◌, true, List, [], ◌<◌, pos, ◌+ℤ◌, ◌-ℤ◌, get_or};
 ghost use Rattle.base.specs.Whole.{within_z};
-ghost use Rattle.base.specs.Refusal.{refusal};
+ghost use Rattle.rules.specs.Answers.{checked};
 ghost use Rattle.rules.specs.Bounds.{added_room, min_coordinate, max_coordinate};
 ghost use Rattle.rules.specs.Tests.{on_wall};
 ghost use Rattle.rules.specs.Grid.{entry_of, flat};
@@ -14,9 +14,7 @@ ghost use Rattle.fit_pattern.specs.Ready.{CellOn};
 ghost use Rattle.fit_windows.specs.Ready.{Ready};
 ghost use Rattle.fit_forced.specs.Round.{Roundable, round_order, only_at, forced_colour, with_forced};
 
-use rules::{
-    Cell, ForcedAnswer, ForcedPosition, ForcedPositions, GenerationBounds, Listing, Offset, World,
-};
+use rules::{BoundingBox, Cell, ForcedPosition, ForcedPositions, Offset, Refusal, World};
 
 // The eight neighbours row by row, by their numbers in the 3x3; the place itself is 4.
 const ROUND_ORDER: [usize; rules::ADDED_ROOM] = [0, 1, 2, 3, 5, 6, 7, 8];
@@ -47,20 +45,20 @@ fn neighbour_at(place: World, d: usize) -> World
 }
 
 // Not outside the box, if one is given.
-fn admitted(bounds: GenerationBounds, place: World) -> bool
+fn admitted(bounds: Option<BoundingBox>, place: World) -> bool
     ensures { result ≡ admits bounds place }
 {
-    let GenerationBounds::Within(corners) = bounds else {
+    let Some(corners) = bounds else {
         return true;
     };
     place_boxes::in_box(corners, place)
 }
 
 // The corners of the box, if one is given, are on the wall.
-pub fn bounds_fit(bounds: GenerationBounds) -> bool
+pub fn bounds_fit(bounds: Option<BoundingBox>) -> bool
     ensures { result ≡ bounds_fit bounds }
 {
-    let GenerationBounds::Within(corners) = bounds else {
+    let Some(corners) = bounds else {
         return true;
     };
     place_boxes::box_fits(corners)
@@ -84,7 +82,7 @@ pub fn only_colour_at(
     if pieces[at] > rules::BARE_PIECE {
         return 0;
     }
-    let Listing::Colours(set) = fit_windows::viable_tiles_at(pieces, rows, cols, tiles, count, cell)
+    let Ok(set) = fit_windows::viable_tiles_at(pieces, rows, cols, tiles, count, cell)
     else {
         return 0;
     };
@@ -100,7 +98,7 @@ fn forced_colour(
     count: u32,
     place: World,
     offset: Offset,
-    bounds: GenerationBounds,
+    bounds: Option<BoundingBox>,
 ) -> u32
     requires { Ready pieces.now rows cols tiles.now count }
     ensures { result ≡ forced_colour flat pieces.now rows cols tiles.now count place offset bounds }
@@ -158,7 +156,7 @@ pub fn forced_round(
     count: u32,
     place: World,
     offset: Offset,
-    bounds: GenerationBounds,
+    bounds: Option<BoundingBox>,
 ) -> ForcedPositions
     requires { Roundable pieces.now rows cols tiles.now count place }
     ensures { result ≡ positions_of (forced_round flat pieces.now rows cols tiles.now count place offset bounds) }
@@ -174,8 +172,8 @@ pub fn forced_round(
     found
 }
 
-// The refusal of the call's input, 0 where there is none.
-pub fn forced_refused(
+// The checks of the call's input.
+pub fn check_forced(
     pieces: &[u32],
     rows: usize,
     cols: usize,
@@ -183,22 +181,16 @@ pub fn forced_refused(
     count: u32,
     place: World,
     offset: Offset,
-    bounds: GenerationBounds,
-) -> u8
-    ensures { result ≡ refusal (forced_checks pieces.now rows cols tiles.now count place offset bounds) }
+    bounds: Option<BoundingBox>,
+) -> Result<(), Refusal>
+    ensures { result ≡ checked (forced_checks pieces.now rows cols tiles.now count place offset bounds) }
 {
-    let refused = fit::pieces_refused(pieces, rows, cols, tiles, count);
-    if refused != 0 {
-        return refused;
-    }
-    let misplaced = places::place_refused(rows, cols, place, offset);
-    if misplaced != 0 {
-        return misplaced;
-    }
+    fit::check_pieces(pieces, rows, cols, tiles, count)?;
+    places::check_place(rows, cols, place, offset)?;
     if !bounds_fit(bounds) {
-        return rules::PLACE;
+        return Err(Refusal::Place);
     }
-    0
+    Ok(())
 }
 
 // The neighbours of a place that only one colour fits, row by row.
@@ -210,20 +202,20 @@ pub fn detect_forced_positions(
     count: u32,
     place: World,
     offset: Offset,
-    bounds: GenerationBounds,
-) -> ForcedAnswer
+    bounds: Option<BoundingBox>,
+) -> Result<ForcedPositions, Refusal>
     ensures { result ≡ forced_neighbours flat pieces.now rows cols tiles.now count place offset bounds }
 {
-    let refused = forced_refused(pieces, rows, cols, tiles, count, place, offset, bounds);
+    let refused = check_forced(pieces, rows, cols, tiles, count, place, offset, bounds);
     if refused != 0 {
         let none = no_positions();
-        return ForcedAnswer {
+        return Result<ForcedPositions, Refusal> {
             refused: refused,
             found: none,
         };
     }
     let found = forced_round(pieces, rows, cols, tiles, count, place, offset, bounds);
-    ForcedAnswer {
+    Result<ForcedPositions, Refusal> {
         refused: 0,
         found: found,
     }

@@ -2,10 +2,7 @@
 // the two tiles of the listing program's sample.
 #![tactic(auto)]
 
-use rules::{
-    BoundingBox, Cell, DeadEnd, ForcedAnswer, ForcedPosition, ForcedPositions, GenerationBounds,
-    Offset, World,
-};
+use rules::{BoundingBox, Cell, ForcedPosition, ForcedPositions, Offset, Refusal, World};
 use std::io;
 
 const CHEQUER: [u8; 18] = [1, 2, 1, 2, 1, 2, 1, 2, 1, 2, 1, 2, 1, 2, 1, 2, 1, 2];
@@ -44,7 +41,7 @@ fn print_positions(rt: &impl Print, found: ForcedPositions) -> io::Result<()> {
     Ok(())
 }
 
-fn print_forced(rt: &impl Print, answer: ForcedAnswer) -> io::Result<()> {
+fn print_forced(rt: &impl Print, answer: Result<ForcedPositions, Refusal>) -> io::Result<()> {
     let found = answer.found;
     text(rt, b"refused ")?;
     number(rt, answer.refused as usize)?;
@@ -54,11 +51,11 @@ fn print_forced(rt: &impl Print, answer: ForcedAnswer) -> io::Result<()> {
     print_positions(rt, found)
 }
 
-fn print_dead_end(rt: &impl Print, answer: DeadEnd, weights: &[u32; 9]) -> io::Result<()> {
+fn print_dead_end(rt: &impl Print, answer: Result<Option<Cell>, Refusal>, weights: &[u32; 9]) -> io::Result<()> {
     match answer {
-        DeadEnd::At(cell) => print_cell(rt, cell, weights),
-        DeadEnd::Nowhere => text(rt, b"dead end none\n"),
-        DeadEnd::Refused(n) => {
+        Ok(Some(cell)) => print_cell(rt, cell, weights),
+        Ok(None) => text(rt, b"dead end none\n"),
+        Err(n) => {
             text(rt, b"refused ")?;
             number(rt, n as usize)?;
             text(rt, b"\n")
@@ -86,7 +83,7 @@ fn round(
     pieces: &[u32; 9],
     place: World,
     offset: Offset,
-    bounds: GenerationBounds,
+    bounds: Option<BoundingBox>,
 ) -> io::Result<()> {
     let answer = fit_forced::detect_forced_positions(
         pieces, 3, 3, &CHEQUER, 2, place, offset, bounds,
@@ -99,13 +96,13 @@ fn scan_of(rt: &impl Print, pieces: &[u32; 9], weights: &[u32; 9]) -> io::Result
     print_dead_end(rt, answer, weights)
 }
 
-fn within(min: World, max: World) -> GenerationBounds {
+fn within(min: World, max: World) -> Option<BoundingBox> {
     let corners = BoundingBox { min: min, max: max };
-    GenerationBounds::Within(corners)
+    Some(corners)
 }
 
 fn forced_cases(rt: &impl Print) -> io::Result<()> {
-    let none = GenerationBounds::Unbounded;
+    let none = None;
     let centre: [u32; 9] = [1, 1, 1, 1, 2, 1, 1, 1, 1];
     text(rt, b"1 laid at (1,1)\n")?;
     round(rt, &centre, World(1, 1), Offset(0, 0), none)?;
@@ -150,7 +147,7 @@ fn boxed_cases(rt: &impl Print) -> io::Result<()> {
         &centre,
         World(3, 1),
         Offset(0, 0),
-        GenerationBounds::Unbounded,
+        None,
     )
 }
 

@@ -12,7 +12,6 @@ use Rattle.rules.specs.Answers.{dead_end_answer}
 use Rattle.rules.specs.Grid.{Kind}
 use Rattle.rules.specs.Forced.{scan_checks, dead_end}
 use Rattle.rules.specs.declared.Cell.{Cell}
-use Rattle.rules.specs.declared.DeadEnd.TheVariants.{Refused}
 use Rattle.check_sizes.proofs.Sides.{long}
 use Rattle.fit_windows.proofs.Accepted.{ready-from}
 use Rattle.fit_scan.specs.Scanned.{Scannable, found_by, scanned}

@@ -7,13 +7,14 @@ use Rattle.base.specs.Refusal.{refusal}
 use Rattle.base.proofs.Chain.{coincide}
 use Rattle.rules.specs.Grid.{Kind}
 use Rattle.rules.specs.Forced.{scan_checks, dead_end}
-use Rattle.rules.specs.declared.DeadEnd.{DeadEnd}
+use Rattle.rules.specs.Answers.{Answer}
+use Rattle.rules.specs.declared.Cell.{Cell}
 
 module _ (pieces weights : List ℕ) (rows cols : ℕ) (tiles : List ℕ) (count : ℕ) where
   pub scan-refused : {r s : ℕ} → r ≡ refusal (scan_checks pieces weights rows cols tiles count)
       → s ≡ refusal (scan_checks pieces weights rows cols tiles count) → r ≡ s
   scan-refused p q = coincide p q
 
-  pub check-for-contradiction : (kind : Kind) {r s : DeadEnd} → r ≡ dead_end kind pieces weights rows cols tiles count
+  pub check-for-contradiction : (kind : Kind) {r s : Answer (Option Cell)} → r ≡ dead_end kind pieces weights rows cols tiles count
       → s ≡ dead_end kind pieces weights rows cols tiles count → r ≡ s
   check-for-contradiction kind p q = coincide p q

@@ -20,7 +20,6 @@ use Rattle.rules.specs.Answers.{dead_end_answer}
 use Rattle.rules.specs.Grid.{Kind, entry_of, cell_with}
 use Rattle.rules.specs.Forced.{listed_at, dead_at, scan_checks, dead_end}
 use Rattle.rules.specs.declared.Cell.{Cell}
-use Rattle.rules.specs.declared.DeadEnd.TheVariants.{At, Nowhere}
 use Rattle.bitset_colours.proofs.Colours.{length-zero}
 use Rattle.fit_pattern.specs.Ready.{CellOn}
 

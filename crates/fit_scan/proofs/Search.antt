@@ -19,7 +19,6 @@ use Rattle.base.proofs.Counted.{some-none, some_is, some_next, first-is, first-n
 use Rattle.rules.specs.Grid.{entry_of, Shape}
 use Rattle.rules.specs.Forced.{listed_at, dead_at}
 use Rattle.rules.specs.declared.Cell.{Cell}
-use Rattle.rules.specs.declared.DeadEnd.TheVariants.{At, Nowhere}
 use Rattle.fit_scan.specs.Scanned.{found_by}
 
 none_of : (test : ℕ → Bool) (n : ℕ) → some n test ≡ false → (k : ℕ) → k < n → test k ≡ false

@@ -2,64 +2,58 @@
 #![tactic(auto)]
 
 ghost use Rattle.std.specs.Prelude.{◌≡◌};
-ghost use Rattle.base.specs.Refusal.{refusal};
+ghost use Rattle.rules.specs.Answers.{checked};
 ghost use Rattle.rules.specs.Grid.{entry_of, flat};
 ghost use Rattle.rules.specs.Forced.{dead_at, scan_lengths, scan_checks, dead_end};
 ghost use Rattle.fit_pattern.specs.Ready.{CellOn};
 ghost use Rattle.fit_scan.specs.Scanned.{Scannable, scanned, cell_checks};
 
-use rules::{Cell, DeadEnd, Listing};
+use rules::{Cell, Refusal};
 
-// The refusal of the sides and lengths, 0 where there is none.
-fn lengths_refused(pieces: &[u32], weights: &[u32], rows: usize, cols: usize, tiles: &[u8]) -> u8
-    ensures { result ≡ refusal (scan_lengths pieces.now weights.now rows cols tiles.now) }
+// The checks of the sides and lengths.
+fn check_lengths(pieces: &[u32], weights: &[u32], rows: usize, cols: usize, tiles: &[u8]) -> Result<(), Refusal>
+    ensures { result ≡ checked (scan_lengths pieces.now weights.now rows cols tiles.now) }
 {
     if !check_sizes::board_sides(rows, cols) {
-        return rules::SHAPE;
+        return Err(Refusal::Shape);
     }
     let cells = check_sizes::cells_of(rows, cols);
-    if !check_sizes::words_have_length(pieces, cells) {
-        return rules::LENGTH;
+    if !check_sizes::has_length(pieces, cells) {
+        return Err(Refusal::Length);
     }
-    if !check_sizes::words_have_length(weights, cells) {
-        return rules::LENGTH;
+    if !check_sizes::has_length(weights, cells) {
+        return Err(Refusal::Length);
     }
     if !check_sizes::whole_tiles(tiles) {
-        return rules::LENGTH;
+        return Err(Refusal::Length);
     }
-    0
+    Ok(())
 }
 
-// The refusal of the colour count and of what the planes hold, 0 where there is none.
-fn cells_refused(pieces: &[u32], weights: &[u32], tiles: &[u8], count: u32) -> u8
-    ensures { result ≡ refusal (cell_checks pieces.now weights.now tiles.now count) }
+// The checks of the colour count and of what the planes hold.
+fn check_cells(pieces: &[u32], weights: &[u32], tiles: &[u8], count: u32) -> Result<(), Refusal>
+    ensures { result ≡ checked (cell_checks pieces.now weights.now tiles.now count) }
 {
-    let no = check_contents::colours_refused(tiles, count, pieces);
-    if no != 0 {
-        return no;
-    }
+    check_contents::check_colours(tiles, count, pieces)?;
     if !check_contents::no_word_above(weights, rules::MAX_WEIGHT) {
-        return rules::CELL;
+        return Err(Refusal::Cell);
     }
-    0
+    Ok(())
 }
 
-// The refusal of the scan's input, 0 where there is none.
-pub fn scan_refused(
+// The checks of the scan's input.
+pub fn check_scan(
     pieces: &[u32],
     weights: &[u32],
     rows: usize,
     cols: usize,
     tiles: &[u8],
     count: u32,
-) -> u8
-    ensures { result ≡ refusal (scan_checks pieces.now weights.now rows cols tiles.now count) }
+) -> Result<(), Refusal>
+    ensures { result ≡ checked (scan_checks pieces.now weights.now rows cols tiles.now count) }
 {
-    let refused = lengths_refused(pieces, weights, rows, cols, tiles);
-    if refused != 0 {
-        return refused;
-    }
-    cells_refused(pieces, weights, tiles, count)
+    check_lengths(pieces, weights, rows, cols, tiles)?;
+    check_cells(pieces, weights, tiles, count)
 }
 
 // Whether the cell is bare, has weight above 1 and lists no colour. The checks are made, so the listing is never a refusal; the `else` that
@@ -84,7 +78,7 @@ fn is_dead_end(
     if weights[at] <= 1 {
         return false;
     }
-    let Listing::Colours(set) = fit_windows::viable_tiles_at(pieces, rows, cols, tiles, count, cell)
+    let Ok(set) = fit_windows::viable_tiles_at(pieces, rows, cols, tiles, count, cell)
     else {
         return false;
     };
@@ -99,16 +93,16 @@ pub fn first_dead_end(
     cols: usize,
     tiles: &[u8],
     count: u32,
-) -> DeadEnd
+) -> Result<Option<Cell>, Refusal>
     requires { Scannable pieces.now weights.now rows cols tiles.now count }
     ensures { result ≡ scanned flat pieces.now weights.now rows cols tiles.now count }
 {
-    let mut found = DeadEnd::Nowhere;
+    let mut found = Ok(None);
     'scan: for row in 0..rows {
         for col in 0..cols {
             let cell = Cell(row, col);
             if is_dead_end(pieces, weights, rows, cols, tiles, count, cell) {
-                found = DeadEnd::At(cell);
+                found = Ok(Some(cell));
                 break 'scan;
             }
         }
@@ -124,12 +118,9 @@ pub fn check_for_contradiction(
     cols: usize,
     tiles: &[u8],
     count: u32,
-) -> DeadEnd
+) -> Result<Option<Cell>, Refusal>
     ensures { result ≡ dead_end flat pieces.now weights.now rows cols tiles.now count }
 {
-    let refused = scan_refused(pieces, weights, rows, cols, tiles, count);
-    if refused != 0 {
-        return DeadEnd::Refused(refused);
-    }
+    check_scan(pieces, weights, rows, cols, tiles, count)?;
     first_dead_end(pieces, weights, rows, cols, tiles, count)
 }

@@ -14,7 +14,7 @@ ghost use Rattle.fit_pattern.specs.Ready.{CellOn, Painted};
 ghost use Rattle.fit_windows.specs.Ready.{Countable, Ready, Coloured};
 ghost use Rattle.fit_windows.specs.Kept.{Keeps, allows_in};
 
-use rules::{Cell, Listing, TileBitset};
+use rules::{Cell, Refusal, TileBitset};
 
 // The place that the cell has in each of its nine windows, in the text's order: the window centred on the cell, then those centred
 // up, left, right and down of it, then on the corners row by row.
@@ -182,13 +182,13 @@ pub fn viable_tiles_at(
     tiles: &[u8],
     count: u32,
     cell: Cell,
-) -> Listing
+) -> Result<TileBitset, Refusal>
     requires ready { Ready pieces.now rows cols tiles.now count }
     requires cell_on { CellOn rows cols cell.0 cell.1 }
     ensures { result ≡ Colours (found_at (flat rows cols) tiles.now pieces.now count (entry_of cols cell)) }
 {
     let bits = viable_colours(pieces, rows, cols, tiles, count, cell.0, cell.1);
-    Listing::Colours(TileBitset {
+    Ok(TileBitset {
         bits: bits,
         size: count,
     })

@@ -11,9 +11,9 @@ use Rattle.boundary.specs.Boundary.{TellsVerdict, TellsCount}
 use Rattle.harness_forced.specs.Slices.{queue_from, PortForces, PortAdds, PortTakes, slices, taking}
 use Rattle.rules.specs.declared.World.{World}
 use Rattle.rules.specs.declared.Offset.{Offset}
-use Rattle.rules.specs.declared.GenerationBounds.{GenerationBounds}
 use Rattle.rules.specs.declared.ForcedPositions.{ForcedPositions}
 use Rattle.boundary.proofs.Back.{lent, Decides, gives-decides}
+use Rattle.rules.specs.declared.BoundingBox.{BoundingBox}
 
 pub port-queue-is-empty-coincide : (coordinates : List ℤ) (colours : List ℕ) (len : ℕ) (out : List ℕ)
     → Decides (TellsVerdict (queue_empty (queue_from coordinates colours len)) out)
@@ -26,7 +26,7 @@ port-queue-len-coincide coordinates colours len out = gives-decides _ _
 -- the slices before the call, and as each of the two calls leaves them; a place, an offset, bounds and an added list of any value stand where
 -- the contracts have those of their arguments
 module _ (coordinates coordinates₁ coordinates₂ : MutBor (List ℤ)) (colours colours₁ colours₂ len len₁ len₂ : MutBor (List ℕ)) {r s : ℕ} where
-  pub port-forced-coincide : (pieces : List ℕ) (rows cols : ℕ) (tiles : List ℕ) (count : ℕ) (place : World) (offset : Offset) (bounds : GenerationBounds)
+  pub port-forced-coincide : (pieces : List ℕ) (rows cols : ℕ) (tiles : List ℕ) (count : ℕ) (place : World) (offset : Offset) (bounds : Option BoundingBox)
       → PortForces pieces rows cols tiles count place offset bounds (lent coordinates coordinates₁) (lent colours colours₁) (lent len len₁) r
       → PortForces pieces rows cols tiles count place offset bounds (lent coordinates coordinates₂) (lent colours colours₂) (lent len len₂) s
       → (r ≡ s) × (slices coordinates₁.now colours₁.now len₁.now ≡ slices coordinates₂.now colours₂.now len₂.now)

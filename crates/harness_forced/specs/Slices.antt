@@ -10,19 +10,15 @@ use Rattle.rules.specs.Grid.{flat}
 use Rattle.rules.specs.Promises.{Lent, before, after}
 use Rattle.rules.specs.declared.World.{World}
 use Rattle.rules.specs.declared.Offset.{Offset}
-use Rattle.rules.specs.declared.GenerationBounds.{GenerationBounds}
 use Rattle.rules.specs.declared.ForcedPosition.{ForcedPosition}
 use Rattle.rules.specs.declared.ForcedPositions.{ForcedPositions}
 use Rattle.rules.specs.declared.ForcedPipeline.{ForcedPipeline}
-use Rattle.rules.specs.declared.ForcedAnswer.{ForcedAnswer}
 use Rattle.rules.specs.declared.Taken.{Taken}
 use Rattle.rules.specs.declared.Grown.{Grown}
-use Rattle.rules.specs.declared.Next.{Next}
-use Rattle.rules.specs.declared.Next.TheVariants as Next·
-use Rattle.rules.specs.declared.Written.{Written}
-use Rattle.rules.specs.declared.Written.TheVariants as Written·
 use Rattle.boundary_slots.specs.Slots.{put, world}
 use Rattle.boundary.specs.Boundary.{written_number}
+use Rattle.rules.specs.Answers.{Answer}
+use Rattle.rules.specs.declared.BoundingBox.{BoundingBox}
 
 -- the slices that hold positions
 pub record Slices : Type 0 where
@@ -82,7 +78,7 @@ abbrev pub positions_stored : ForcedPositions → Slices → Slices
 positions_stored p s = stored added_room p.entries p.len s
 
 -- adding: the queue as it is then; a refused call stores nothing
-abbrev pub added_left : Written → ForcedPipeline → Slices → Slices
+abbrev pub added_left : Answer Unit → ForcedPipeline → Slices → Slices
 added_left Written·.Done q s = queue_stored q s
 added_left (Written·.Refused n) q s = s
 
@@ -104,12 +100,12 @@ pub record Taking : Type 0 where
 abbrev pub taking : Slices → List ℤ → List ℕ → List ℕ → Taking
 taking queue taken colour found = record { queue = queue; taken = taken; colour = colour; found = found }
 
-abbrev pub next_number : Next → ℕ
+abbrev pub next_number : Answer (Option ForcedPosition) → ℕ
 next_number (Next·.Taken e) = 0
 next_number Next·.Nothing = 0
 next_number (Next·.Refused n) = n
 
-abbrev pub next_left : Next → ForcedPipeline → Taking → Taking
+abbrev pub next_left : Answer (Option ForcedPosition) → ForcedPipeline → Taking → Taking
 next_left (Next·.Taken e) q t =
     taking
     (queue_stored q t.queue)
@@ -122,7 +118,7 @@ next_left (Next·.Refused n) q t = t
 abbrev pub taken_left : Taken → Taking → Taking
 taken_left k t = next_left k.next k.queue t
 
-abbrev pub TellsNext : Next → ForcedPipeline → Lent (List ℤ) → Lent (List ℕ) → Lent (List ℕ) → Lent (List ℤ) → Lent (List ℕ) → Lent (List ℕ) → ℕ → Type 0
+abbrev pub TellsNext : Answer (Option ForcedPosition) → ForcedPipeline → Lent (List ℤ) → Lent (List ℕ) → Lent (List ℕ) → Lent (List ℤ) → Lent (List ℕ) → Lent (List ℕ) → ℕ → Type 0
 TellsNext next queue coordinates colours len taken colour found r =
     Gives (next_number next) (next_left next queue (taking (slices_before coordinates colours len) (before taken) (before colour) (before found)))
     r (taking (slices_after coordinates colours len) (after taken) (after colour) (after found))
@@ -136,10 +132,10 @@ PortTakes coordinates colours len =
 abbrev pub found_left : ℕ → ForcedPositions → Slices → Slices
 found_left refused found s = unless_refused refused (positions_stored found s) s
 
-abbrev pub forced_left : ForcedAnswer → Slices → Slices
+abbrev pub forced_left : Answer ForcedPositions → Slices → Slices
 forced_left a s = found_left a.refused a.found s
 
-abbrev pub PortForces : List ℕ → ℕ → ℕ → List ℕ → ℕ → World → Offset → GenerationBounds → Lent (List ℤ) → Lent (List ℕ) → Lent (List ℕ) → ℕ → Type 0
+abbrev pub PortForces : List ℕ → ℕ → ℕ → List ℕ → ℕ → World → Offset → Option BoundingBox → Lent (List ℤ) → Lent (List ℕ) → Lent (List ℕ) → ℕ → Type 0
 PortForces pieces rows cols tiles count place offset bounds coordinates colours len r =
     let answer = forced_neighbours flat pieces rows cols tiles count place offset bounds in
     Gives answer.refused (forced_left answer (slices_before coordinates colours len)) r (slices_after coordinates colours len)

@@ -3,15 +3,15 @@
 ghost use Rattle.std.specs.Prelude.{◌≡◌};
 ghost use Rattle.rules.specs.Forced.{grown_by, taken_from};
 
-use rules::{ForcedPipeline, ForcedPositions, Grown, Next, Taken, Written};
+use rules::{ForcedPipeline, ForcedPosition, ForcedPositions, Grown, Refusal, Taken};
 
-fn taken_of(next: Next, queue: ForcedPipeline) -> Taken
+fn taken_of(next: Result<Option<ForcedPosition>, Refusal>, queue: ForcedPipeline) -> Taken
     ensures { (result.next ≡ next) × (result.queue ≡ queue) }
 {
     Taken { next, queue }
 }
 
-fn grown_of(answer: Written, queue: ForcedPipeline) -> Grown
+fn grown_of(answer: Result<(), Refusal>, queue: ForcedPipeline) -> Grown
     ensures { (result.answer ≡ answer) × (result.queue ≡ queue) }
 {
     Grown { answer, queue }

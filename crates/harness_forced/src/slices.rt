@@ -9,7 +9,7 @@ ghost use Rattle.harness_forced.specs.Slices.{entry_at, queue_from, positions_fr
 ghost use Rattle.harness_forced.specs.Slices.{place_stored, queue_stored, positions_stored, added_left, TellsNext, found_left};
 
 use boundary_slots::{put_long, put_signed, put_word};
-use rules::{ForcedPipeline, ForcedPosition, ForcedPositions, Next, World, Written};
+use rules::{ForcedPipeline, ForcedPosition, ForcedPositions, Refusal, World};
 
 fn signed_at(words: &[i32], at: usize) -> i32
     ensures { result ≡ get_or words.now at (pos 0) }
@@ -130,7 +130,7 @@ pub fn put_positions(
 
 // What adding answers: the queue as it is then goes back, unless the call is refused.
 pub fn added_given(
-    answer: Written,
+    answer: Result<(), Refusal>,
     queue: ForcedPipeline,
     coordinates: &mut [i32],
     colours: &mut [u32],
@@ -139,11 +139,11 @@ pub fn added_given(
     ensures { Gives (written_number answer) (added_left answer queue (slices_before coordinates colours len)) result (slices_after coordinates colours len) }
 {
     match answer {
-        Written::Done => {
+        Ok(()) => {
             put_queue(queue, coordinates, colours, len);
             0
         }
-        Written::Refused(n) => n as u32,
+        Err(n) => n as u32,
     }
 }
 
@@ -158,7 +158,7 @@ fn put_taken(position: ForcedPosition, taken: &mut [i32], colour: &mut [u32], fo
 
 // What taking answers: the queue as it is then goes back, unless the call is refused.
 pub fn taken_given(
-    next: Next,
+    next: Result<Option<ForcedPosition>, Refusal>,
     queue: ForcedPipeline,
     coordinates: &mut [i32],
     colours: &mut [u32],
@@ -170,17 +170,17 @@ pub fn taken_given(
     ensures { TellsNext next queue coordinates colours len taken colour found result }
 {
     match next {
-        Next::Taken(position) => {
+        Ok(Some(position) => {
             put_queue(queue, coordinates, colours, len);
             put_taken(position, taken, colour, found);
             0
         }
-        Next::Nothing => {
+        Ok(None) => {
             put_queue(queue, coordinates, colours, len);
             put_word(found, 0, 0);
             0
         }
-        Next::Refused(n) => n as u32,
+        Err(n) => n as u32,
     }
 }
 

@@ -15,8 +15,9 @@ use Rattle.rules.specs.Promises.{CopiesWords, CopiesFloats}
 use Rattle.boundary_slots.specs.Slots.{world, offset_by, pads_by, set_from}
 use Rattle.boundary.specs.Boundary.{Numbered, written_number, TellsSet, TellsVerdict}
 use Rattle.harness_tiles.specs.Lent.{box_of, nine_of, put_from, TellsExtension, TellsMembers, PortExtracts, extended, bytes_with}
-use Rattle.rules.specs.declared.ExtensionAnswer.{ExtensionAnswer}
 use Rattle.boundary.proofs.Back.{lent, Decides, gives-decides, numbered-decides}
+use Rattle.rules.specs.Answers.{Answer}
+use Rattle.rules.specs.declared.ExtensionInfo.{ExtensionInfo}
 
 pub port-contains-coincide : (minrow mincol maxrow maxcol row col : ℤ) (out : List ℕ)
     → Decides (TellsVerdict (box_contains (box_of minrow mincol maxrow maxcol) (world row col)) out)
@@ -40,14 +41,14 @@ pub port-membership-coincide : (tile : List ℕ) (count : ℕ) (out : List ℕ) 
 port-membership-coincide tile count out = gives-decides _ _
 
 -- two results that tell this extension coincide: the slices before the call, and as each of the two calls leaves them
-abbrev Extends : ExtensionAnswer → Type 0
+abbrev Extends : Answer ExtensionInfo → Type 0
 Extends answer =
     (pads pads₁ pads₂ : MutBor (List ℕ)) (offset offset₁ offset₂ : MutBor (List ℤ)) (needed needed₁ needed₂ : MutBor (List ℕ)) (r s : ℕ)
     → TellsExtension answer (lent pads pads₁) (lent offset offset₁) (lent needed needed₁) r
     → TellsExtension answer (lent pads pads₂) (lent offset offset₂) (lent needed needed₂) s
     → (r ≡ s) × (extended pads₁.now offset₁.now needed₁.now ≡ extended pads₂.now offset₂.now needed₂.now)
 
-extends : (answer : ExtensionAnswer) → Extends answer
+extends : (answer : Answer ExtensionInfo) → Extends answer
 extends answer pads pads₁ pads₂ offset offset₁ offset₂ needed needed₁ needed₂ r s p q = gives-coincide p q
 
 pub port-calculate-extension-coincide : (rows cols : ℕ) (down across row col : ℤ) (radius : ℕ)

@@ -9,10 +9,10 @@ use Rattle.rules.specs.Tiles.{extraction, store_after}
 use Rattle.rules.specs.declared.BoundingBox.{BoundingBox}
 use Rattle.rules.specs.declared.Pads.{Pads}
 use Rattle.rules.specs.declared.ColourList.{ColourList}
-use Rattle.rules.specs.declared.ExtensionAnswer.{ExtensionAnswer}
-use Rattle.rules.specs.declared.ExtensionAnswer.TheVariants as ExtensionAnswer·
 use Rattle.boundary_slots.specs.Slots.{world, put, offset_stored, digit_of}
 use Rattle.boundary.specs.Boundary.{tiles_number, tiles_left}
+use Rattle.rules.specs.Answers.{Answer}
+use Rattle.rules.specs.declared.ExtensionInfo.{ExtensionInfo}
 
 -- ---- what goes in
 
@@ -45,17 +45,17 @@ abbrev pub extended : List ℕ → List ℤ → List ℕ → Extended
 extended pads offset needed = record { pads = pads; offset = offset; needed = needed }
 
 -- 0 where the call is accepted
-abbrev pub extension_number : ExtensionAnswer → ℕ
+abbrev pub extension_number : Answer ExtensionInfo → ℕ
 extension_number (ExtensionAnswer·.Extension e) = 0
 extension_number (ExtensionAnswer·.Refused n) = n
 
 -- the pads, the new offset, and 1 where the grid has to grow, else 0
-abbrev pub extension_left : ExtensionAnswer → Extended → Extended
+abbrev pub extension_left : Answer ExtensionInfo → Extended → Extended
 extension_left (ExtensionAnswer·.Extension e) out =
     extended (pads_stored e.pads out.pads) (offset_stored e.offset out.offset) (put out.needed 0 (digit_of e.needed))
 extension_left (ExtensionAnswer·.Refused n) out = out
 
-abbrev pub TellsExtension : ExtensionAnswer → Lent (List ℕ) → Lent (List ℤ) → Lent (List ℕ) → ℕ → Type 0
+abbrev pub TellsExtension : Answer ExtensionInfo → Lent (List ℕ) → Lent (List ℤ) → Lent (List ℕ) → ℕ → Type 0
 TellsExtension answer pads offset needed r =
     Gives (extension_number answer) (extension_left answer (extended (before pads) (before offset) (before needed)))
     r (extended (after pads) (after offset) (after needed))

@@ -5,7 +5,7 @@ ghost use Rattle.rules.specs.Promises.{before, after};
 ghost use Rattle.harness_tiles.specs.Lent.{box_of, nine_of, put_from, pads_stored, TellsExtension, TellsMembers};
 
 use boundary_slots::{digit, put_byte, put_long, put_offset, put_word, world_at};
-use rules::{BoundingBox, ColourList, ExtensionAnswer, Pads};
+use rules::{BoundingBox, ColourList, ExtensionInfo, Pads, Refusal};
 
 pub fn box_at(minrow: i32, mincol: i32, maxrow: i32, maxcol: i32) -> BoundingBox
     ensures { result ≡ box_of minrow mincol maxrow maxcol }
@@ -54,7 +54,7 @@ fn put_pads(out: &mut [u64], pads: Pads)
 }
 
 pub fn extension_given(
-    answer: ExtensionAnswer,
+    answer: Result<ExtensionInfo, Refusal>,
     pads: &mut [u64],
     offset: &mut [i32],
     needed: &mut [u32],
@@ -62,14 +62,14 @@ pub fn extension_given(
     ensures { TellsExtension answer pads offset needed result }
 {
     match answer {
-        ExtensionAnswer::Extension(info) => {
+        Ok(info) => {
             let bit = digit(info.needed);
             put_pads(pads, info.pads);
             put_offset(offset, info.offset);
             put_word(needed, 0, bit);
             0
         }
-        ExtensionAnswer::Refused(n) => n as u32,
+        Err(n) => n as u32,
     }
 }
 

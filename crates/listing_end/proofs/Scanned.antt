@@ -11,12 +11,10 @@ use Rattle.base.specs.Refusal.{refusal}
 use Rattle.base.proofs.Bools.{by-test}
 use Rattle.base.proofs.Numbers.{mul-le, cell-is}
 use Rattle.rules.specs.Tests.{board_sides}
-use Rattle.rules.specs.Answers.{dead_end_answer}
+use Rattle.rules.specs.Answers.{Answer, dead_end_answer}
 use Rattle.rules.specs.Forced.{dead_at, scan_checks, dead_end}
 use Rattle.rules.specs.Grid.{Kind, flat, cell_with}
 use Rattle.rules.specs.declared.Cell.{Cell}
-use Rattle.rules.specs.declared.DeadEnd.{DeadEnd}
-use Rattle.rules.specs.declared.DeadEnd.TheVariants as DeadEnd·
 use Rattle.check_sizes.proofs.Sides.{board-cols, few-cells}
 use Rattle.rules.specs.Board.{Board}
 use Rattle.listing_job.specs.declared.Setup.{Setup}
@@ -26,26 +24,26 @@ use Rattle.listing_end.specs.Ending.{refused_line, planes_text, end_text, panel_
 use Rattle.listing_end.specs.Near.{Near}
 
 -- ---- the scan, case by case
-pub scan-at : {d : DeadEnd} (cell : Cell) → d ≡ DeadEnd·.At cell → dead_end_text cell ≡ scan_text d
+pub scan-at : {d : Answer (Option Cell)} (cell : Cell) → d ≡ DeadEnd·.At cell → dead_end_text cell ≡ scan_text d
 unfolding scan_text
 scan-at cell e = rw e
 
-pub scan-nowhere : {d : DeadEnd} → d ≡ DeadEnd·.Nowhere → dead_end_start ++ none_line ≡ scan_text d
+pub scan-nowhere : {d : Answer (Option Cell)} → d ≡ DeadEnd·.Nowhere → dead_end_start ++ none_line ≡ scan_text d
 unfolding scan_text
 scan-nowhere e = rw e
 
-pub scan-refused : {d : DeadEnd} (n : ℕ) → d ≡ DeadEnd·.Refused n → refused_line n ≡ scan_text d
+pub scan-refused : {d : Answer (Option Cell)} (n : ℕ) → d ≡ DeadEnd·.Refused n → refused_line n ≡ scan_text d
 unfolding scan_text
 scan-refused n e = rw e
 
-pub near-at : {d : DeadEnd} (cell : Cell) → d ≡ DeadEnd·.At cell → Near d → (cell.0 ≤ 4096) × (cell.1 ≤ 4096)
+pub near-at : {d : Answer (Option Cell)} (cell : Cell) → d ≡ DeadEnd·.At cell → Near d → (cell.0 ≤ 4096) × (cell.1 ≤ 4096)
 near-at cell e h = subst Near e h
 
-pub end_is : {at r : ℕ} {x y : List ℕ} {d : DeadEnd} (s : Setup) (tiles : List ℕ) (b : Board)
+pub end_is : {at r : ℕ} {x y : List ℕ} {d : Answer (Option Cell)} (s : Setup) (tiles : List ℕ) (b : Board)
     → d ≡ dead_end flat b.pieces b.weights s.board.rows s.board.cols tiles s.count
     → Prints (planes_text b s.board.cols ++ scan_text d) at x r y → Prints (end_text (panel_with s tiles) s.count b) at x r y
 unfolding end_text panel_with
-end_is s tiles b e w = writes_as (ap (λ (q : DeadEnd). planes_text b s.board.cols ++ scan_text q) e) w
+end_is s tiles b e w = writes_as (ap (λ (q : Answer (Option Cell)). planes_text b s.board.cols ++ scan_text q) e) w
 
 -- ---- where a dead end is
 first-le : (n : ℕ) (f : ℕ → Bool) → first n f ≤ n
@@ -58,7 +56,7 @@ near-answer zero true cell h k = (h, k)
 near-answer zero false cell h k = tt
 near-answer (suc n) t cell h k = tt
 
-pub dead-end-near : {d : DeadEnd} (kind : Kind) (pieces weights : List ℕ) (rows cols : ℕ) (tiles : List ℕ) (count : ℕ) → board_sides rows cols ≡ true
+pub dead-end-near : {d : Answer (Option Cell)} (kind : Kind) (pieces weights : List ℕ) (rows cols : ℕ) (tiles : List ℕ) (count : ℕ) → board_sides rows cols ≡ true
     → d ≡ dead_end kind pieces weights rows cols tiles count → Near d
 unfolding dead_end
 dead-end-near kind pieces weights rows cols tiles count t e =

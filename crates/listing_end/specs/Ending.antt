@@ -6,10 +6,9 @@ use Rattle.rules.specs.Board.{Panel, Board}
 use Rattle.rules.specs.Promises.{panel}
 use Rattle.rules.specs.declared.Cell.{Cell}
 use Rattle.rules.specs.declared.Offset.{Offset}
-use Rattle.rules.specs.declared.DeadEnd.{DeadEnd}
-use Rattle.rules.specs.declared.DeadEnd.TheVariants as DeadEnd·
 use Rattle.listing_job.specs.declared.Setup.{Setup}
 use Rattle.listing_lines.specs.Lines.{decimal, number_line, plane_text}
+use Rattle.rules.specs.Answers.{Answer}
 
 -- `refused N`
 abbrev pub refused_word : List ℕ
@@ -47,7 +46,7 @@ unfoldable pub dead_end_text : Cell → List ℕ
 dead_end_text cell = ((dead_end_start ++ decimal cell.0) ++ 32 ∷ []) ++ number_line cell.1
 
 -- the scan; it is never refused here
-unfoldable pub scan_text : DeadEnd → List ℕ
+unfoldable pub scan_text : Answer (Option Cell) → List ℕ
 scan_text (DeadEnd·.At cell) = dead_end_text cell
 scan_text DeadEnd·.Nowhere = dead_end_start ++ none_line
 scan_text (DeadEnd·.Refused n) = refused_line n

@@ -11,7 +11,7 @@ ghost use Rattle.listing_end.specs.Ending.{refused_line, planes_text, dead_end_t
 ghost use Rattle.listing_end.specs.Near.{Near};
 
 use listing_job::Setup;
-use rules::{Cell, DeadEnd};
+use rules::{Cell, Refusal};
 
 // A plane under its heading.
 fn put_headed(
@@ -67,14 +67,14 @@ fn put_no_dead_end(out: &mut [u8], at: usize) -> usize
     listing_lines::put_text(out, at, b"dead end none\n")
 }
 
-fn put_scan(out: &mut [u8], at: usize, found: DeadEnd) -> usize
+fn put_scan(out: &mut [u8], at: usize, found: Result<Option<Cell>, Refusal>) -> usize
     requires { Near found }
     ensures { Prints (scan_text found) at (before out) result (after out) }
 {
     match found {
-        DeadEnd::At(cell) => put_dead_end(out, at, cell),
-        DeadEnd::Nowhere => put_no_dead_end(out, at),
-        DeadEnd::Refused(n) => put_refused(out, at, n),
+        Ok(Some(cell)) => put_dead_end(out, at, cell),
+        Ok(None) => put_no_dead_end(out, at),
+        Err(n) => put_refused(out, at, n),
     }
 }
 

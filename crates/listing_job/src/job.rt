@@ -24,17 +24,13 @@ fn wide(n: u32) -> usize
 fn side_up_to(most: u32, side: u32) -> bool
     ensures { result ≡ within 1 most side }
 {
-    if 1 <= side { side <= most } else { false }
+    1 <= side && side <= most
 }
 
 fn sides_up_to(most: u32, rows: u32, cols: u32) -> bool
     ensures { result ≡ sides_up_to most rows cols }
 {
-    if side_up_to(most, rows) {
-        side_up_to(most, cols)
-    } else {
-        false
-    }
+    side_up_to(most, rows) && side_up_to(most, cols)
 }
 
 // Where the step that starts at p ends; past the last number where none starts so.
@@ -107,11 +103,7 @@ fn sample_cells(numbers: &[u32]) -> usize
 fn is_formed(numbers: &[u32]) -> bool
     ensures { result ≡ is_formed numbers.now }
 {
-    if head_fits(numbers) {
-        tail_fits(numbers, sample_cells(numbers))
-    } else {
-        false
-    }
+    head_fits(numbers) && tail_fits(numbers, sample_cells(numbers))
 }
 
 fn sides(rows: u32, cols: u32) -> Sides

@@ -20,9 +20,7 @@ use Rattle.base.proofs.Signs.{counted}
 use Rattle.rules.specs.Board.{Panel, Board, lay_checks, after_lay, lift_checks, after_lift}
 use Rattle.rules.specs.Promises.{Lays, Lifts}
 use Rattle.rules.specs.declared.World.{World}
-use Rattle.rules.specs.declared.LayAnswer.{LayAnswer}
-use Rattle.rules.specs.declared.LiftAnswer.{LiftAnswer}
-use Rattle.rules.specs.Answers.{lay_answer, lift_answer}
+use Rattle.rules.specs.Answers.{Answer, lay_answer, lift_answer}
 use Rattle.listing_numbers.specs.Input.{max_number}
 use Rattle.listing_job.specs.Form.{Step, lay, lift, Steps, misformed, steps, and_then, steps_in, is_whole, list_of, step_end}
 use Rattle.listing_job.proofs.Forming.{Starts, lay_by, lift_by, lays, lifts, step-at, not-cut, other_at, end-lay, end-lift}
@@ -138,7 +136,7 @@ pub running_none : (j : Panel) (count : ℕ) (ns : List ℕ) (b : Board) (p at :
 running_none j count ns b p at x w = record { walks = w; boards = refl; texts = λ r z g. g }
 
 -- ---- one step of the board's calls
-pub took-lay : {a : LayAnswer} {w : World} {c : Board} {n : ℕ} (j : Panel) (count : ℕ) (b : Board) (s : Step) (row col colour : ℕ) → s ≡ lay row col colour → w ≡ place_at row col
+pub took-lay : {a : Answer Unit} {w : World} {c : Board} {n : ℕ} (j : Panel) (count : ℕ) (b : Board) (s : Step) (row col colour : ℕ) → s ≡ lay row col colour → w ≡ place_at row col
     → Lays j count w colour b a c → n ≡ lay_number a → Gives (answer_to j count b s) (board_past j count b s) n c
 unfolding answer_to board_past
 took-lay {w = w} j count b s row col colour e p g q =
@@ -148,7 +146,7 @@ took-lay {w = w} j count b s row col colour e p g q =
       leaves = g.leaves ∙ ap (λ (v : World). after_lay j count b v colour) p;
     })
 
-pub took-lift : {a : LiftAnswer} {w : World} {c : Board} {n : ℕ} (j : Panel) (count : ℕ) (b : Board) (s : Step) (row col : ℕ) → s ≡ lift row col → w ≡ place_at row col
+pub took-lift : {a : Answer Unit} {w : World} {c : Board} {n : ℕ} (j : Panel) (count : ℕ) (b : Board) (s : Step) (row col : ℕ) → s ≡ lift row col → w ≡ place_at row col
     → Lifts j count w b a c → n ≡ lift_number a → Gives (answer_to j count b s) (board_past j count b s) n c
 unfolding answer_to board_past
 took-lift {w = w} j count b s row col e p g q =

@@ -18,11 +18,9 @@ use Rattle.base.proofs.Counted.{every-ext}
 use Rattle.base.proofs.Tabled.{length-tab, get_d-tab}
 use Rattle.base.proofs.Chain.{all_pass, none-fails}
 use Rattle.rules.specs.Tests.{has_length, tiles_in, tile_number_fits, whole_tiles, colour_count, entry_up_to, none_above}
-use Rattle.rules.specs.Answers.{tile_answer}
+use Rattle.rules.specs.Answers.{Answer, tile_answer}
 use Rattle.rules.specs.Tiles.{starts_along, forms, variants, variant, distinct, extracted, store_with, sample_checks, room_check, extraction, store_after}
 use Rattle.rules.specs.Promises.{Extracts}
-use Rattle.rules.specs.declared.TileNumber.{TileNumber}
-use Rattle.rules.specs.declared.TileNumber.TheVariants as TileNumber·
 use Rattle.check_sizes.proofs.Sides.{count_most, none_above-entry}
 use Rattle.tile_forms.proofs.Variants.{turns-le, forms-le, forms-pos, variant-length}
 use Rattle.tiles.proofs.Store.{with-length}
@@ -175,7 +173,7 @@ module _ (ns : List ℕ) (rows cols count : ℕ) (rotations reflections : Bool) 
       ap (λ (n : ℕ). tile_answer n (tiles_in made))
       (nothing-more (sample_checks bytes rows cols count) (room_check made d) has_room ∙ same-refusal ns (rows * cols) long rows cols count)
 
-  module _ (a : TileNumber) (x : List ℕ) (g : Extracts bytes rows cols count rotations reflections d a x) where
+  module _ (a : Answer ℕ) (x : List ℕ) (g : Extracts bytes rows cols count rotations reflections d a x) where
     pub told-refused : (n : ℕ) → a ≡ TileNumber·.Refused n → (refusal (sample_checks cells rows cols count) ≡ n) × (n ≡ 0 → ⊥)
     told-refused n e = answer-refused (refusal (sample_checks cells rows cols count)) (tiles_in made) n (sym extraction-is ∙ sym g.answered ∙ e)
 

@@ -19,9 +19,6 @@ use Rattle.rules.specs.Tests.{board_sides, has_length, tiles_in, whole_tiles}
 use Rattle.rules.specs.Tiles.{extracted, sample_checks}
 use Rattle.rules.specs.Board.{Panel, Board, fresh_checks}
 use Rattle.rules.specs.Promises.{Freshens, Extracts}
-use Rattle.rules.specs.declared.Written.{Written}
-use Rattle.rules.specs.declared.TileNumber.{TileNumber}
-use Rattle.rules.specs.declared.TileNumber.TheVariants as TileNumber·
 use Rattle.check_sizes.proofs.Sides.{whole-number}
 use Rattle.listing_numbers.specs.Decimals.{Text, bad, numbers, parsed_into, over, numbers_stored, Parses}
 use Rattle.listing_numbers.specs.Input.{input_text}
@@ -41,6 +38,7 @@ use Rattle.listing_end.specs.Ending.{refused_line, end_text}
 use Rattle.listing_steps.specs.Walks.{Small, Walks, steps_from, Ran}
 use Rattle.listing_text.specs.Runs.{Planes, Formed, clipped}
 use Rattle.listing_text.proofs.Setting.{told-refused, told-accepted, told-few, told-tiles, tiles-whole}
+use Rattle.rules.specs.Answers.{Answer}
 
 -- ---- a fresh board
 has-length : {A : Type 0} (l : List A) (n : ℕ) → length l ≡ n → has_length l n ≡ true
@@ -58,7 +56,7 @@ fresh-passes j b p =
     let y : Passes (fresh_checks j.rows j.cols (tiles_in j.tiles) b) = search in
     none-fails _ y
 
-pub ran-fresh : {a : Written} {p r : ℕ} {x y z : List ℕ} {c₀ c : Board} (j : Panel) (count : ℕ) (b : Board) (l : List Step) → Planes j b
+pub ran-fresh : {a : Answer Unit} {p r : ℕ} {x y z : List ℕ} {c₀ c : Board} (j : Panel) (count : ℕ) (b : Board) (l : List Step) → Planes j b
     → Freshens j.rows j.cols (tiles_in j.tiles) b a c₀ → Ran j count c₀ l 0 x p c y → Prints (end_text j count c) p y r z
     → Prints (run_text j count (fresh_for j) l) 0 x r z
 unfolding run_text fresh_for
@@ -131,7 +129,7 @@ module _ (ns : List ℕ) (s : Setup) (f : Formed ns s) where
       }
 
   -- ---- a job
-  module _ (bytes d : List ℕ) (a : TileNumber) (x : List ℕ) (are : bytes ≡ clipped ns (s.sample.rows * s.sample.cols)) (room : length d ≡ 14112)
+  module _ (bytes d : List ℕ) (a : Answer ℕ) (x : List ℕ) (are : bytes ≡ clipped ns (s.sample.rows * s.sample.cols)) (room : length d ≡ 14112)
       (g : Extracts bytes s.sample.rows s.sample.cols s.count s.rotations s.reflections d a x) where
     given : Extracts (clipped ns (s.sample.rows * s.sample.cols)) s.sample.rows s.sample.cols s.count s.rotations s.reflections d a x
     given = subst (λ (l : List ℕ). Extracts l s.sample.rows s.sample.cols s.count s.rotations s.reflections d a x) are g

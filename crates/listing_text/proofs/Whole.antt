@@ -17,8 +17,6 @@ use Rattle.rules.specs.Bounds.{bare}
 use Rattle.rules.specs.Forced.{dead_end}
 use Rattle.rules.specs.Board.{Panel, Board, raised, lowered, recounted, laid, lifted, fresh_board, lay_checks, after_lay, lift_checks, after_lift}
 use Rattle.rules.specs.declared.Cell.{Cell}
-use Rattle.rules.specs.declared.DeadEnd.{DeadEnd}
-use Rattle.rules.specs.declared.DeadEnd.TheVariants as DeadEnd·
 use Rattle.listing_numbers.specs.Decimals.{Text, bad, numbers}
 use Rattle.listing_numbers.specs.Input.{input_text}
 use Rattle.listing_job.specs.Form.{Step, lay, lift, Steps, misformed, steps, steps_in, list_of, is_whole, max_board, sides_up_to, sample_cells, tail_fits, is_formed, setup_of, step_numbers}
@@ -34,6 +32,7 @@ use Rattle.listing_steps.specs.Steps.{answer_to, board_past, answers_text, board
 use Rattle.listing_end.specs.Ending.{refused_line, planes_text, dead_end_text, scan_text, end_text, panel_with}
 use Rattle.listing_text.specs.Printed.{run_text, fresh_for, unless_number, setup_refusal, tiles_of, job_text, numbers_text, text_for, printed}
 use Rattle.listing_text.proofs.Telling.{board-few}
+use Rattle.rules.specs.Answers.{Answer}
 
 -- ---- planes keep their lengths
 pub record Sized (n : ℕ) (b : Board) : Type 0 where
@@ -96,7 +95,7 @@ dead-end-length : (cell : Cell) → length (dead_end_text cell) ≤ 31
 unfolding dead_end_text
 dead-end-length cell = simp length-append (omega (arith, decimal-length cell.0, line-length cell.1))
 
-scan-length : (d : DeadEnd) → length (scan_text d) ≤ 31
+scan-length : (d : Answer (Option Cell)) → length (scan_text d) ≤ 31
 unfolding scan_text
 scan-length (DeadEnd·.At cell) = dead-end-length cell
 scan-length DeadEnd·.Nowhere = omega arith
@@ -112,7 +111,7 @@ run_length : (j : Panel) (count n : ℕ) (b : Board) (l : List Step) → Sized n
 unfolding run_text end_text
 run_length j count n b l h =
     let c : Board = board_in j count b l in
-    let d : DeadEnd = dead_end j.kind c.pieces c.weights j.rows j.cols j.tiles count in
+    let d : Answer (Option Cell) = dead_end j.kind c.pieces c.weights j.rows j.cols j.tiles count in
     omega (
       arith,
       length-append (answers_text j count b l) (planes_text c j.cols ++ scan_text d),

@@ -12,7 +12,6 @@ ghost use Rattle.listing_text.specs.Runs.{Planes, Formed, clipped};
 use listing_end::{put_end, put_refused};
 use listing_job::Setup;
 use listing_steps::run_steps;
-use rules::TileNumber;
 
 // A sample of 16 by 16 has 256 cells, and its windows start at 14 by 14 of them; eight forms of each are nine bytes a tile.
 const SAMPLE_CELLS: usize = 256;
@@ -107,14 +106,14 @@ fn list_sample(out: &mut [u8], sample: &mut [u8], numbers: &[u32], setup: Setup)
     );
     let from = setup.sample.rows * setup.sample.cols + 7;
     match answer {
-        TileNumber::Tiles(n) => run_on_planes(
+        Ok(n) => run_on_planes(
             out,
             &store[..n * rules::TILE_CELLS],
             setup,
             numbers,
             from,
         ),
-        TileNumber::Refused(no) => put_refused(out, 0, no),
+        Err(no) => put_refused(out, 0, no),
     }
 }
 

@@ -5,18 +5,14 @@ ghost use Rattle.std.specs.Prelude.{◌≡◌};
 ghost use Rattle.rules.specs.Places.{in_box, box_fits, box_contains};
 
 use places::{in_range, on_wall};
-use rules::{BoundingBox, Verdict, World};
+use rules::{BoundingBox, Refusal, World};
 
 pub fn in_box(bounds: BoundingBox, place: World) -> bool
     ensures { result ≡ in_box bounds place }
 {
     let min = bounds.min;
     let max = bounds.max;
-    if in_range(min.0, max.0, place.0) {
-        in_range(min.1, max.1, place.1)
-    } else {
-        false
-    }
+    in_range(min.0, max.0, place.0) && in_range(min.1, max.1, place.1)
 }
 
 // Both corners lie on the wall; that min is not above max is not asked.
@@ -25,17 +21,17 @@ pub fn box_fits(bounds: BoundingBox) -> bool
 {
     let min = bounds.min;
     let max = bounds.max;
-    if on_wall(min) { on_wall(max) } else { false }
+    on_wall(min) && on_wall(max)
 }
 
-pub fn contains(bounds: BoundingBox, place: World) -> Verdict
+pub fn contains(bounds: BoundingBox, place: World) -> Result<bool, Refusal>
     ensures { result ≡ box_contains bounds place }
 {
     if !box_fits(bounds) {
-        return Verdict::Refused(rules::PLACE);
+        return Err(Refusal::Place);
     }
     if !on_wall(place) {
-        return Verdict::Refused(rules::PLACE);
+        return Err(Refusal::Place);
     }
-    Verdict::Is(in_box(bounds, place))
+    Ok(in_box(bounds, place))
 }

@@ -1,7 +1,7 @@
 // Places on the compiled code: document 01's case of extension, and the ends of every range.
 #![tactic(auto)]
 
-use rules::{BoundingBox, ExtensionAnswer, Offset, Pads, SpanAnswer, Verdict, World, Written};
+use rules::{BoundingBox, ExtensionInfo, Offset, Pads, Refusal, World};
 use std::io;
 
 fn space(rt: &impl Print) -> io::Result<()> {
@@ -48,25 +48,25 @@ fn span(rt: &impl Print, offset: Offset, at: World, radius: usize) -> io::Result
             number(rt, cols.1)?;
             newline(rt)
         }
-        SpanAnswer::Refused(n) => refused(rt, n),
+        Err(n) => refused(rt, n),
     }
 }
 
 fn inside(rt: &impl Print, bounds: BoundingBox, at: World) -> io::Result<()> {
     let answer = place_boxes::contains(bounds, at);
     match answer {
-        Verdict::Is(b) => {
+        Ok(b) => {
             rt.write_all(b"contains")?;
             flag(rt, b)?;
             newline(rt)
         }
-        Verdict::Refused(n) => refused(rt, n),
+        Err(n) => refused(rt, n),
     }
 }
 
-fn grown(rt: &impl Print, answer: ExtensionAnswer) -> io::Result<()> {
+fn grown(rt: &impl Print, answer: Result<ExtensionInfo, Refusal>) -> io::Result<()> {
     match answer {
-        ExtensionAnswer::Extension(e) => {
+        Ok(e) => {
             let pads = e.pads;
             let offset = e.offset;
             rt.write_all(b"pads")?;
@@ -81,7 +81,7 @@ fn grown(rt: &impl Print, answer: ExtensionAnswer) -> io::Result<()> {
             flag(rt, e.needed)?;
             newline(rt)
         }
-        ExtensionAnswer::Refused(n) => refused(rt, n),
+        Err(n) => refused(rt, n),
     }
 }
 
@@ -122,10 +122,10 @@ fn word(rt: &impl Print, n: u32) -> io::Result<()> {
     rt.print(n as u64)
 }
 
-fn done(rt: &impl Print, answer: Written) -> io::Result<()> {
+fn done(rt: &impl Print, answer: Result<(), Refusal>) -> io::Result<()> {
     match answer {
-        Written::Done => rt.write_all(b"copied\n"),
-        Written::Refused(n) => refused(rt, n),
+        Ok(()) => rt.write_all(b"copied\n"),
+        Err(n) => refused(rt, n),
     }
 }
 

@@ -2,22 +2,22 @@
 #![tactic(auto)]
 
 ghost use Rattle.std.specs.Prelude.{◌≡◌};
-ghost use Rattle.base.specs.Refusal.{refusal};
+ghost use Rattle.rules.specs.Answers.{checked};
 ghost use Rattle.rules.specs.Places.{extension_of, boxed_extension, extension_checks};
 
 pub use pads::offset_after;
-use rules::{BoundingBox, ExtensionAnswer, Offset, World};
+use rules::{BoundingBox, ExtensionInfo, Offset, Refusal, World};
 
 mod pads;
 
-// The checks of both calls; 0 where all pass.
-fn extension_refused(rows: usize, cols: usize, offset: Offset, place: World, radius: usize) -> u8
-    ensures { result ≡ refusal (extension_checks rows cols offset place radius) }
+// The checks of both calls.
+fn check_extension(rows: usize, cols: usize, offset: Offset, place: World, radius: usize) -> Result<(), Refusal>
+    ensures { result ≡ checked (extension_checks rows cols offset place radius) }
 {
     if !check_sizes::board_sides(rows, cols) {
-        return rules::SHAPE;
+        return Err(Refusal::Shape);
     }
-    place_spans::region_refused(offset, place, radius)
+    place_spans::check_region(offset, place, radius)
 }
 
 // How far a grid must grow to hold a place with a radius round it.
@@ -27,15 +27,12 @@ pub fn calculate_extension(
     offset: Offset,
     place: World,
     radius: usize,
-) -> ExtensionAnswer
+) -> Result<ExtensionInfo, Refusal>
     ensures { result ≡ extension_of rows cols offset place radius }
 {
-    let refused = extension_refused(rows, cols, offset, place, radius);
-    if refused != 0 {
-        return ExtensionAnswer::Refused(refused);
-    }
+    check_extension(rows, cols, offset, place, radius)?;
     let wanted = pads::pads_of(rows, cols, offset, place, radius);
-    ExtensionAnswer::Extension(pads::extension_by(offset, wanted))
+    Ok(pads::extension_by(offset, wanted))
 }
 
 // The same, and no further than a box. Where the grid already lies past the box, it does not shrink.
@@ -46,17 +43,14 @@ pub fn constrain_extension(
     place: World,
     radius: usize,
     bounds: BoundingBox,
-) -> ExtensionAnswer
+) -> Result<ExtensionInfo, Refusal>
     ensures { result ≡ boxed_extension rows cols offset place radius bounds }
 {
-    let refused = extension_refused(rows, cols, offset, place, radius);
-    if refused != 0 {
-        return ExtensionAnswer::Refused(refused);
-    }
+    check_extension(rows, cols, offset, place, radius)?;
     if !place_boxes::box_fits(bounds) {
-        return ExtensionAnswer::Refused(rules::PLACE);
+        return Err(Refusal::Place);
     }
     let wanted = pads::pads_of(rows, cols, offset, place, radius);
     let granted = pads::constrain_pads(bounds, rows, cols, offset, wanted);
-    ExtensionAnswer::Extension(pads::extension_by(offset, granted))
+    Ok(pads::extension_by(offset, granted))
 }

@@ -7,10 +7,11 @@ use Rattle.base.proofs.Chain.{coincide}
 use Rattle.rules.specs.Places.{span_checks, region_spans}
 use Rattle.rules.specs.declared.World.{World}
 use Rattle.rules.specs.declared.Offset.{Offset}
-use Rattle.rules.specs.declared.SpanAnswer.{SpanAnswer}
+use Rattle.rules.specs.Answers.{Answer}
+use Rattle.rules.specs.declared.Spans.{Spans}
 
 pub region-refused : (o : Offset) (w : World) (k : ℕ) {r s : ℕ} → r ≡ refusal (span_checks o w k) → s ≡ refusal (span_checks o w k) → r ≡ s
 region-refused o w k p q = coincide p q
 
-pub get-region-spans : (o : Offset) (w : World) (k : ℕ) {r s : SpanAnswer} → r ≡ region_spans o w k → s ≡ region_spans o w k → r ≡ s
+pub get-region-spans : (o : Offset) (w : World) (k : ℕ) {r s : Answer Spans} → r ≡ region_spans o w k → s ≡ region_spans o w k → r ≡ s
 get-region-spans o w k p q = coincide p q

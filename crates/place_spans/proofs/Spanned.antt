@@ -8,20 +8,20 @@ use Rattle.rules.specs.Places.{cell_of, region_spans}
 use Rattle.rules.specs.declared.World.{World}
 use Rattle.rules.specs.declared.Offset.{Offset}
 use Rattle.rules.specs.declared.Span.{Span}
-use Rattle.rules.specs.declared.SpanAnswer.{SpanAnswer}
-use Rattle.rules.specs.declared.SpanAnswer.TheVariants.{Spans, Refused}
 use Rattle.places.proofs.Indices.{Placed, span_round, spans-given}
+use Rattle.rules.specs.Answers.{Answer}
+use Rattle.rules.specs.declared.Spans.{Spans}
 
-spans-rows : {a : SpanAnswer} {r s p q : Span} → a ≡ Spans r s → a ≡ Spans p q → r ≡ p
+spans-rows : {a : Answer Spans} {r s p q : Span} → a ≡ Spans r s → a ≡ Spans p q → r ≡ p
 spans-rows e h = cc
 
-spans-cols : {a : SpanAnswer} {r s p q : Span} → a ≡ Spans r s → a ≡ Spans p q → s ≡ q
+spans-cols : {a : Answer Spans} {r s p q : Span} → a ≡ Spans r s → a ≡ Spans p q → s ≡ q
 spans-cols e h = cc
 
-clash : {a : SpanAnswer} {n : ℕ} {p q : Span} → a ≡ Refused n → a ≡ Spans p q → ⊥
+clash : {a : Answer Spans} {n : ℕ} {p q : Span} → a ≡ Refused n → a ≡ Spans p q → ⊥
 clash e h = let z : ◌≡◌ {A = ℕ} 0 1 = cc in omega arith
 
-module _ {a : SpanAnswer} (rows cols : ℕ) (w : World) (o : Offset) (k : ℕ) (p : Placed rows cols w o) (h : k ≤ max_radius) (is : a ≡ region_spans o w k) where
+module _ {a : Answer Spans} (rows cols : ℕ) (w : World) (o : Offset) (k : ℕ) (p : Placed rows cols w o) (h : k ≤ max_radius) (is : a ≡ region_spans o w k) where
   given : a ≡ Spans (span_round (cell_of w o).0 k) (span_round (cell_of w o).1 k)
   given = is ∙ spans-given rows cols w o k p h
 

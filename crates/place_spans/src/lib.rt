@@ -2,12 +2,12 @@
 #![tactic(auto)]
 
 ghost use Rattle.std.specs.Prelude.{◌≡◌, ◌≤◌, ◌+ℤ◌};
-ghost use Rattle.base.specs.Refusal.{refusal};
+ghost use Rattle.rules.specs.Answers.{checked};
 ghost use Rattle.rules.specs.Bounds.{max_radius};
 ghost use Rattle.rules.specs.Places.{span_of, span_checks, region_spans};
 
 use places::{clip_to, offset_fits, on_wall, signed_index};
-use rules::{Offset, Span, SpanAnswer, World};
+use rules::{Offset, Refusal, Span, Spans, World};
 
 // The span of a radius round the index of a coordinate, along one side.
 fn span_along(coordinate: i32, offset: i32, radius: usize) -> Span
@@ -19,29 +19,26 @@ fn span_along(coordinate: i32, offset: i32, radius: usize) -> Span
     Span(clip_to(index - reach), clip_to(index + reach + 1))
 }
 
-// The refusal of a radius round a place, which may lie off the board; 0 where there is none.
-pub fn region_refused(offset: Offset, place: World, radius: usize) -> u8
-    ensures { result ≡ refusal (span_checks offset place radius) }
+// The checks of a radius round a place, which may lie off the board.
+pub fn check_region(offset: Offset, place: World, radius: usize) -> Result<(), Refusal>
+    ensures { result ≡ checked (span_checks offset place radius) }
 {
     if radius > rules::MAX_RADIUS {
-        return rules::SHAPE;
+        return Err(Refusal::Shape);
     }
     if !on_wall(place) {
-        return rules::PLACE;
+        return Err(Refusal::Place);
     }
     if !offset_fits(offset) {
-        return rules::PLACE;
+        return Err(Refusal::Place);
     }
-    0
+    Ok(())
 }
 
-pub fn get_region_spans(offset: Offset, place: World, radius: usize) -> SpanAnswer
+pub fn get_region_spans(offset: Offset, place: World, radius: usize) -> Result<Spans, Refusal>
     ensures { result ≡ region_spans offset place radius }
 {
-    let refused = region_refused(offset, place, radius);
-    if refused != 0 {
-        return SpanAnswer::Refused(refused);
-    }
+    check_region(offset, place, radius)?;
     let rows = span_along(place.0, offset.0, radius);
     let cols = span_along(place.1, offset.1, radius);
     SpanAnswer::Spans(rows, cols)

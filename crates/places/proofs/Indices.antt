@@ -23,7 +23,6 @@ use Rattle.rules.specs.Fit.{place_checks}
 use Rattle.rules.specs.declared.World.{World}
 use Rattle.rules.specs.declared.Offset.{Offset}
 use Rattle.rules.specs.declared.Span.{Span}
-use Rattle.rules.specs.declared.SpanAnswer.TheVariants.{Spans}
 
 -- what the test `z < 0` leaves of `index_below`
 pub below-index : (n : ℕ) (z : ℤ) → lt_z z (pos 0) ≡ true → false ≡ index_below n z

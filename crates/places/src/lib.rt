@@ -5,27 +5,23 @@
 
 ghost use Rattle.std.specs.Prelude.{◌≡◌, min, ◌&&◌, ◌+ℤ◌};
 ghost use Rattle.base.specs.Whole.{clip, within_z, index_below};
-ghost use Rattle.base.specs.Refusal.{refusal};
+ghost use Rattle.rules.specs.Answers.{checked};
 ghost use Rattle.rules.specs.Tests.{on_wall, offset_fits, on_board};
 ghost use Rattle.rules.specs.Places.{cell_of};
 ghost use Rattle.rules.specs.Fit.{place_checks};
 
-use rules::{Cell, Offset, World};
+use rules::{Cell, Offset, Refusal, World};
 
 pub fn in_range(least: i32, most: i32, z: i32) -> bool
     ensures { result ≡ within_z least most z }
 {
-    if least <= z { z <= most } else { false }
+    least <= z && z <= most
 }
 
 fn both_in_range(least: i32, most: i32, x: i32, y: i32) -> bool
     ensures { result ≡ (within_z least most x && within_z least most y) }
 {
-    if in_range(least, most, x) {
-        in_range(least, most, y)
-    } else {
-        false
-    }
+    in_range(least, most, x) && in_range(least, most, y)
 }
 
 pub fn on_wall(place: World) -> bool
@@ -87,11 +83,7 @@ fn on_side(side: usize, coordinate: i32, offset: i32) -> bool
 pub fn on_board(rows: usize, cols: usize, place: World, offset: Offset) -> bool
     ensures { result ≡ on_board rows cols place offset }
 {
-    if on_side(rows, place.0, offset.0) {
-        on_side(cols, place.1, offset.1)
-    } else {
-        false
-    }
+    on_side(rows, place.0, offset.0) && on_side(cols, place.1, offset.1)
 }
 
 pub fn cell_of(place: World, offset: Offset) -> Cell
@@ -103,18 +95,18 @@ pub fn cell_of(place: World, offset: Offset) -> Cell
     )
 }
 
-// The refusal of a place that has to lie on the board, 0 where there is none.
-pub fn place_refused(rows: usize, cols: usize, place: World, offset: Offset) -> u8
-    ensures { result ≡ refusal (place_checks rows cols place offset) }
+// The checks of a place that has to lie on the board.
+pub fn check_place(rows: usize, cols: usize, place: World, offset: Offset) -> Result<(), Refusal>
+    ensures { result ≡ checked (place_checks rows cols place offset) }
 {
     if !on_wall(place) {
-        return rules::PLACE;
+        return Err(Refusal::Place);
     }
     if !offset_fits(offset) {
-        return rules::PLACE;
+        return Err(Refusal::Place);
     }
     if !on_board(rows, cols, place, offset) {
-        return rules::PLACE;
+        return Err(Refusal::Place);
     }
-    0
+    Ok(())
 }

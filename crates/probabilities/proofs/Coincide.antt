@@ -9,9 +9,9 @@ use Rattle.rules.specs.Promises.{Normalises, Multiplies, Divides}
 use Rattle.rules.specs.Probabilities.{Block}
 use Rattle.rules.specs.declared.World.{World}
 use Rattle.rules.specs.declared.Offset.{Offset}
-use Rattle.rules.specs.declared.Written.{Written}
+use Rattle.rules.specs.Answers.{Answer}
 
-module _ (plane : List Float) (rows cols count : ℕ) (w : World) (o : Offset) {a c : Written} {l m : List Float} where
+module _ (plane : List Float) (rows cols count : ℕ) (w : World) (o : Offset) {a c : Answer Unit} {l m : List Float} where
   pub get-tile-probabilities-at-position-coincides : (out : List Float)
       → Normalises plane rows cols count w o out a l → Normalises plane rows cols count w o out c m → (a ≡ c) × (l ≡ m)
   get-tile-probabilities-at-position-coincides out p q = gives-coincide p q

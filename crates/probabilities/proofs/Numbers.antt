@@ -28,7 +28,6 @@ use Rattle.rules.specs.Promises.{Normalises, Multiplies, Divides}
 use Rattle.rules.proofs.Answered.{was-written}
 use Rattle.rules.specs.declared.World.{World}
 use Rattle.rules.specs.declared.Offset.{Offset}
-use Rattle.rules.specs.declared.Written.TheVariants.{Done}
 use Rattle.rules.proofs.Floats.{finite_number, times-finite, over-finite, over-positive, count-positive, is-finite, is-number, all-at, all-tab, one-finite}
 use Rattle.probability_normal.proofs.Normal.{map-tab, shares, uniform}
 use Rattle.places.proofs.Indices.{entry-below}

@@ -6,9 +6,9 @@ ghost use Rattle.rules.specs.Promises.{before, after, Normalises, Multiplies, Di
 ghost use Rattle.probability_influence.specs.Step.{block_of};
 ghost use Rattle.probabilities.specs.Calls.{Changes};
 
-use probability_checks::{normalise_refused, step_refused};
+use probability_checks::{check_normalise, check_step};
 use probability_normal::take_place;
-use rules::{Offset, SpanAnswer, World, Written};
+use rules::{Offset, Refusal, World};
 
 // Each colour's probability at a place, normalised, into out.
 pub fn get_tile_probabilities_at_position(
@@ -19,16 +19,13 @@ pub fn get_tile_probabilities_at_position(
     place: World,
     offset: Offset,
     out: &mut [f64],
-) -> Written
+) -> Result<(), Refusal>
     ensures { Normalises probabilities.now rows cols count place offset (before out) result (after out) }
 {
-    let refused = normalise_refused(probabilities, rows, cols, count, place, offset, out);
-    if refused != 0 {
-        return Written::Refused(refused);
-    }
+    check_normalise(probabilities, rows, cols, count, place, offset, out)?;
     take_place(probabilities, rows, cols, count, place, offset, out);
     probability_normal::normalise(out, count);
-    Written::Done
+    Ok(())
 }
 
 fn change_probabilities(
@@ -43,11 +40,11 @@ fn change_probabilities(
     place: World,
     offset: Offset,
     radius: usize,
-) -> Written
+) -> Result<(), Refusal>
     ensures { Changes reverse rows cols count (block_of brows bcols block.now) place offset radius
         (before probabilities) result (after probabilities) }
 {
-    let refused = step_refused(
+    check_step(
         probabilities,
         rows,
         cols,
@@ -58,14 +55,11 @@ fn change_probabilities(
         place,
         offset,
         radius,
-    );
-    if refused != 0 {
-        return Written::Refused(refused);
-    }
+    )?;
     // A place that was not refused has spans.
     let SpanAnswer::Spans(rowround, colround) = place_spans::get_region_spans(offset, place, radius)
     else {
-        return Written::Refused(rules::PLACE);
+        return Err(Refusal::Place);
     };
     let rowspan = probability_influence::clipped(rows, rowround);
     let colspan = probability_influence::clipped(cols, colround);
@@ -81,7 +75,7 @@ fn change_probabilities(
         brows,
         bcols,
     );
-    Written::Done
+    Ok(())
 }
 
 // The product step: each probability in the clipped region by the chosen colour's influence block.
@@ -96,7 +90,7 @@ pub fn update_probabilities(
     place: World,
     offset: Offset,
     radius: usize,
-) -> Written
+) -> Result<(), Refusal>
     ensures { Multiplies rows cols count (block_of blockrows blockcols block.now) place offset radius
         (before probabilities) result (after probabilities) }
 {
@@ -127,7 +121,7 @@ pub fn revert_probabilities(
     place: World,
     offset: Offset,
     radius: usize,
-) -> Written
+) -> Result<(), Refusal>
     ensures { Divides rows cols count (block_of blockrows blockcols block.now) place offset radius
         (before probabilities) result (after probabilities) }
 {

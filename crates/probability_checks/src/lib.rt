@@ -3,15 +3,15 @@
 
 ghost use Rattle.std.specs.Prelude.{◌≡◌, ◌&&◌};
 ghost use Rattle.base.specs.Counting.{within};
-ghost use Rattle.base.specs.Refusal.{refusal};
+ghost use Rattle.rules.specs.Answers.{checked};
 ghost use Rattle.rules.specs.Bounds.{max_influence_side};
 ghost use Rattle.rules.specs.Probabilities.{normalise_checks, influence_sizes, influence_checks};
 ghost use Rattle.probability_influence.specs.Step.{block_of};
 
-use rules::{Offset, World};
+use rules::{Offset, Refusal, World};
 
-// The refusal of a normalising call, 0 where there is none. The place may lie off the board.
-pub fn normalise_refused(
+// The checks of a normalising call. The place may lie off the board.
+pub fn check_normalise(
     plane: &[f64],
     rows: usize,
     cols: usize,
@@ -19,54 +19,46 @@ pub fn normalise_refused(
     place: World,
     offset: Offset,
     out: &[f64],
-) -> u8
-    ensures { result ≡ refusal (normalise_checks plane.now rows cols count place offset out.now) }
+) -> Result<(), Refusal>
+    ensures { result ≡ checked (normalise_checks plane.now rows cols count place offset out.now) }
 {
     if !check_sizes::board_sides(rows, cols) {
-        return rules::SHAPE;
+        return Err(Refusal::Shape);
     }
-    if !check_sizes::floats_have_length(plane, count as usize * (rows * cols)) {
-        return rules::LENGTH;
+    if !check_sizes::has_length(plane, count as usize * (rows * cols)) {
+        return Err(Refusal::Length);
     }
-    if !check_sizes::floats_have_length(out, count as usize) {
-        return rules::LENGTH;
+    if !check_sizes::has_length(out, count as usize) {
+        return Err(Refusal::Length);
     }
     if !check_sizes::colour_count(count) {
-        return rules::COUNT;
+        return Err(Refusal::Count);
     }
     if !check_contents::all_numbers(plane) {
-        return rules::NUMBER;
+        return Err(Refusal::Number);
     }
     if !places::on_wall(place) {
-        return rules::PLACE;
+        return Err(Refusal::Place);
     }
     if !places::offset_fits(offset) {
-        return rules::PLACE;
+        return Err(Refusal::Place);
     }
-    0
+    Ok(())
 }
 
 fn influence_sides(brows: usize, bcols: usize) -> bool
     ensures { result ≡ (within 1 max_influence_side brows && within 1 max_influence_side bcols) }
 {
-    if influence_side(brows) {
-        influence_side(bcols)
-    } else {
-        false
-    }
+    influence_side(brows) && influence_side(bcols)
 }
 
 fn influence_side(side: usize) -> bool
     ensures { result ≡ within 1 max_influence_side side }
 {
-    if 1 <= side {
-        side <= rules::MAX_INFLUENCE_SIDE
-    } else {
-        false
-    }
+    1 <= side && side <= rules::MAX_INFLUENCE_SIDE
 }
 
-fn sizes_refused(
+fn check_influence(
     plane: &[f64],
     rows: usize,
     cols: usize,
@@ -75,32 +67,32 @@ fn sizes_refused(
     brows: usize,
     bcols: usize,
     radius: usize,
-) -> u8
-    ensures { result ≡ refusal (influence_sizes plane.now rows cols count (block_of brows bcols block.now) radius) }
+) -> Result<(), Refusal>
+    ensures { result ≡ checked (influence_sizes plane.now rows cols count (block_of brows bcols block.now) radius) }
 {
     if !check_sizes::board_sides(rows, cols) {
-        return rules::SHAPE;
+        return Err(Refusal::Shape);
     }
     if !influence_sides(brows, bcols) {
-        return rules::SHAPE;
+        return Err(Refusal::Shape);
     }
     if radius > rules::MAX_RADIUS {
-        return rules::SHAPE;
+        return Err(Refusal::Shape);
     }
-    if !check_sizes::floats_have_length(plane, count as usize * (rows * cols)) {
-        return rules::LENGTH;
+    if !check_sizes::has_length(plane, count as usize * (rows * cols)) {
+        return Err(Refusal::Length);
     }
-    if !check_sizes::floats_have_length(block, count as usize * (brows * bcols)) {
-        return rules::LENGTH;
+    if !check_sizes::has_length(block, count as usize * (brows * bcols)) {
+        return Err(Refusal::Length);
     }
     if !check_sizes::colour_count(count) {
-        return rules::COUNT;
+        return Err(Refusal::Count);
     }
-    0
+    Ok(())
 }
 
-// The refusal of a product step or its reverse, 0 where there is none.
-pub fn step_refused(
+// The checks of a product step or its reverse.
+pub fn check_step(
     plane: &[f64],
     rows: usize,
     cols: usize,
@@ -111,18 +103,15 @@ pub fn step_refused(
     place: World,
     offset: Offset,
     radius: usize,
-) -> u8
-    ensures { result ≡ refusal (influence_checks plane.now rows cols count (block_of brows bcols block.now) place offset radius) }
+) -> Result<(), Refusal>
+    ensures { result ≡ checked (influence_checks plane.now rows cols count (block_of brows bcols block.now) place offset radius) }
 {
-    let refused = sizes_refused(plane, rows, cols, count, block, brows, bcols, radius);
-    if refused != 0 {
-        return refused;
-    }
+    check_influence(plane, rows, cols, count, block, brows, bcols, radius)?;
     if !check_contents::all_finite(plane) {
-        return rules::NUMBER;
+        return Err(Refusal::Number);
     }
     if !check_contents::all_finite(block) {
-        return rules::NUMBER;
+        return Err(Refusal::Number);
     }
-    places::place_refused(rows, cols, place, offset)
+    places::check_place(rows, cols, place, offset)
 }

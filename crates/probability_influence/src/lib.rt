@@ -13,7 +13,7 @@ ghost use Rattle.rules.specs.Probabilities.{clipped_to};
 ghost use Rattle.probability_influence.specs.Step.{region_in, block_of, multiplied_by, divided_by, changed_entry, block_row, colour_changed, colours_changed};
 ghost use Rattle.probability_influence.specs.Fits.{ColourFits, StepFits};
 
-use rules::Span;
+use rules::{Span, Spans};
 
 // Beyond the block the factor is 1.0.
 fn factor(factors: &[f64], j: usize) -> f64
@@ -79,23 +79,22 @@ fn change_colour(
     reverse: bool,
     plane: &mut [f64],
     cols: usize,
-    rowspan: Span,
-    colspan: Span,
+    spans: Spans,
     block: &[f64],
     brows: usize,
     bcols: usize,
 )
-    requires { ColourFits plane.old block.now cols brows bcols rowspan colspan }
-    ensures { after plane ≡ colour_changed reverse cols (region_in rowspan colspan) (block_of brows bcols block.now) (before plane) }
+    requires { ColourFits plane.old block.now cols brows bcols spans.rows spans.cols }
+    ensures { after plane ≡ colour_changed reverse cols (region_in spans.rows spans.cols) (block_of brows bcols block.now) (before plane) }
 {
     let mut i = 0;
-    let mut r = rowspan.0;
-    while r < rowspan.1 {
+    let mut r = spans.rows.0;
+    while r < spans.rows.1 {
         let factors = block_row(brows, bcols, i);
         let start = factors.0;
         let end = factors.1;
-        let from = r * cols + colspan.0;
-        let to = r * cols + colspan.1;
+        let from = r * cols + spans.cols.0;
+        let to = r * cols + spans.cols.1;
         change_row(reverse, &mut plane[from..to], &block[start..end]);
         i += 1;
         r += 1;
@@ -109,14 +108,13 @@ pub fn change_colours(
     cells: usize,
     cols: usize,
     count: usize,
-    rowspan: Span,
-    colspan: Span,
+    spans: Spans,
     block: &[f64],
     brows: usize,
     bcols: usize,
 )
-    requires { StepFits plane.old block.now cells cols count brows bcols rowspan colspan }
-    ensures { after plane ≡ colours_changed reverse cells cols (region_in rowspan colspan) (block_of brows bcols block.now) (before plane) }
+    requires { StepFits plane.old block.now cells cols count brows bcols spans.rows spans.cols }
+    ensures { after plane ≡ colours_changed reverse cells cols (region_in spans.rows spans.cols) (block_of brows bcols block.now) (before plane) }
 {
     let entries = brows * bcols;
     let mut t = 0;
@@ -129,8 +127,7 @@ pub fn change_colours(
             reverse,
             &mut plane[from..to],
             cols,
-            rowspan,
-            colspan,
+            spans,
             &block[start..end],
             brows,
             bcols,

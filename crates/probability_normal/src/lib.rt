@@ -69,11 +69,7 @@ pub fn fill(ps: &mut [f64], x: f64)
 fn usable(most: f64) -> bool
     ensures { result ≡ usable most }
 {
-    if 0.0 < most {
-        most < f64::from_bits(0x7ff0_0000_0000_0000)
-    } else {
-        false
-    }
+    0.0 < most && most < f64::from_bits(0x7ff0_0000_0000_0000)
 }
 
 // The probabilities of one place, normalised where they stand: one for each colour.

@@ -16,8 +16,6 @@ use Rattle.rules.specs.declared.ForcedPositions.{ForcedPositions}
 use Rattle.rules.specs.declared.ForcedPipeline.{ForcedPipeline}
 use Rattle.rules.specs.declared.Grown.{Grown}
 use Rattle.rules.specs.declared.Taken.{Taken}
-use Rattle.rules.specs.declared.Written.TheVariants as Written·
-use Rattle.rules.specs.declared.Next.TheVariants as Next·
 use Rattle.queue_entries.specs.Unchecked.{Adding, grown_to, next_out}
 
 -- taking

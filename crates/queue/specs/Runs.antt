@@ -6,8 +6,7 @@ use Rattle.rules.specs.Forced.{queued, offered, is_queued, add_checks, grown_by,
 use Rattle.rules.specs.declared.ForcedPosition.{ForcedPosition}
 use Rattle.rules.specs.declared.ForcedPositions.{ForcedPositions}
 use Rattle.rules.specs.declared.ForcedPipeline.{ForcedPipeline}
-use Rattle.rules.specs.declared.Next.{Next}
-use Rattle.rules.specs.declared.Next.TheVariants.{Taken, Nothing, Refused}
+use Rattle.rules.specs.Answers.{Answer}
 
 -- of the positions offered those whose place is not queued by then, in order
 unfoldable pub new_ones : List ForcedPosition → List ForcedPosition → List ForcedPosition
@@ -31,7 +30,7 @@ unfoldable pub comes_in : ForcedPipeline → QueueCall → List ForcedPosition
 comes_in q (adding p) = unless_refused (refusal (add_checks q p)) (new_ones (queued q) (offered p)) []
 comes_in q taking = []
 
-abbrev pub position_in : Next → List ForcedPosition
+abbrev pub position_in : Answer (Option ForcedPosition) → List ForcedPosition
 position_in (Taken e) = e ∷ []
 position_in Nothing = []
 position_in (Refused n) = []

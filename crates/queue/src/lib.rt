@@ -7,7 +7,7 @@ ghost use Rattle.rules.specs.Forced.{queue_of, grown_by, taken_from, queue_empty
 ghost use Rattle.rules.specs.Promises.{before, after};
 ghost use Rattle.queue.specs.Promises.{TakesFrom, AddsTo};
 
-use rules::{CountAnswer, ForcedPipeline, ForcedPositions, Grown, Next, Taken, Verdict, Written};
+use rules::{ForcedPipeline, ForcedPosition, ForcedPositions, Grown, Refusal, Taken};
 
 mod refusals;
 
@@ -24,7 +24,7 @@ pub fn add_positions(queue: ForcedPipeline, positions: ForcedPositions) -> Grown
 {
     let refused = refusals::of_adding(queue, positions);
     if refused != 0 {
-        let answer = Written::Refused(refused);
+        let answer = Err(refused);
         return Grown { answer, queue };
     }
     queue_entries::add_positions(queue, positions)
@@ -36,35 +36,29 @@ pub fn take_next(queue: ForcedPipeline) -> Taken
 {
     let refused = refusals::of_queue(queue);
     if refused != 0 {
-        let next = Next::Refused(refused);
+        let next = Err(refused);
         return Taken { next, queue };
     }
     queue_entries::take_next(queue)
 }
 
-pub fn is_empty(queue: ForcedPipeline) -> Verdict
+pub fn is_empty(queue: ForcedPipeline) -> Result<bool, Refusal>
     ensures { result ≡ queue_empty queue }
 {
-    let refused = refusals::of_queue(queue);
-    if refused != 0 {
-        return Verdict::Refused(refused);
-    }
-    Verdict::Is(queue.len == 0)
+    refusals::of_queue(queue)?;
+    Ok(queue.len == 0)
 }
 
-pub fn len(queue: ForcedPipeline) -> CountAnswer
+pub fn len(queue: ForcedPipeline) -> Result<usize, Refusal>
     ensures { result ≡ queue_length queue }
 {
-    let refused = refusals::of_queue(queue);
-    if refused != 0 {
-        return CountAnswer::Refused(refused);
-    }
-    CountAnswer::Is(queue.len)
+    refusals::of_queue(queue)?;
+    Ok(queue.len)
 }
 
 // The two parts of what taking answers, and of what adding answers. Each is a call of its own, so that the two functions behind them
 // are no more than a read, calls and a store: their proof knows the callees by their contracts alone.
-fn taken_next(taken: Taken) -> Next
+fn taken_next(taken: Taken) -> Result<Option<ForcedPosition>, Refusal>
     ensures { result ≡ taken.next }
 {
     let next = taken.next;
@@ -78,7 +72,7 @@ fn taken_queue(taken: Taken) -> ForcedPipeline
     queue
 }
 
-fn grown_answer(grown: Grown) -> Written
+fn grown_answer(grown: Grown) -> Result<(), Refusal>
     ensures { result ≡ grown.answer }
 {
     let answer = grown.answer;
@@ -93,7 +87,7 @@ fn grown_queue(grown: Grown) -> ForcedPipeline
 }
 
 // Taking, from a queue that is lent for change.
-pub fn take_next_from(queue: &mut ForcedPipeline) -> Next
+pub fn take_next_from(queue: &mut ForcedPipeline) -> Result<Option<ForcedPosition>, Refusal>
     ensures { TakesFrom (before queue) result (after queue) }
 {
     let old = *queue;
@@ -104,7 +98,7 @@ pub fn take_next_from(queue: &mut ForcedPipeline) -> Next
 }
 
 // Adding, to a queue that is lent for change.
-pub fn add_positions_to(queue: &mut ForcedPipeline, positions: ForcedPositions) -> Written
+pub fn add_positions_to(queue: &mut ForcedPipeline, positions: ForcedPositions) -> Result<(), Refusal>
     ensures { AddsTo positions (before queue) result (after queue) }
 {
     let old = *queue;

@@ -1,10 +1,10 @@
 // The checks of the queue's calls, made once, on entry: SHAPE, then PLACE. ROOM is left to the adding itself.
 ghost use Rattle.std.specs.Prelude.{◌≡◌, ◌≤◌};
-ghost use Rattle.base.specs.Refusal.{refusal};
+ghost use Rattle.rules.specs.Answers.{checked};
 ghost use Rattle.rules.specs.Bounds.{queue_room, added_room};
 ghost use Rattle.rules.specs.Forced.{queued, offered, all_on_wall, queue_checks, entry_checks};
 
-use rules::{ForcedPipeline, ForcedPositions};
+use rules::{ForcedPipeline, ForcedPositions, Refusal};
 
 // No loop of these two leaves early: of an accepted call each entry is looked at anyway.
 fn queued_on_wall(queue: ForcedPipeline) -> bool
@@ -41,32 +41,32 @@ fn offered_on_wall(positions: ForcedPositions) -> bool
     fine
 }
 
-pub fn of_queue(queue: ForcedPipeline) -> u8
-    ensures { result ≡ refusal (queue_checks queue) }
+pub fn of_queue(queue: ForcedPipeline) -> Result<(), Refusal>
+    ensures { result ≡ checked (queue_checks queue) }
 {
     if rules::QUEUE_ROOM < queue.len {
-        return rules::SHAPE;
+        return Err(Refusal::Shape);
     }
     if !queued_on_wall(queue) {
-        return rules::PLACE;
+        return Err(Refusal::Place);
     }
-    0
+    Ok(())
 }
 
-pub fn of_adding(queue: ForcedPipeline, positions: ForcedPositions) -> u8
-    ensures { result ≡ refusal (entry_checks queue positions) }
+pub fn of_adding(queue: ForcedPipeline, positions: ForcedPositions) -> Result<(), Refusal>
+    ensures { result ≡ checked (entry_checks queue positions) }
 {
     if rules::QUEUE_ROOM < queue.len {
-        return rules::SHAPE;
+        return Err(Refusal::Shape);
     }
     if rules::ADDED_ROOM < positions.len {
-        return rules::SHAPE;
+        return Err(Refusal::Shape);
     }
     if !queued_on_wall(queue) {
-        return rules::PLACE;
+        return Err(Refusal::Place);
     }
     if !offered_on_wall(positions) {
-        return rules::PLACE;
+        return Err(Refusal::Place);
     }
-    0
+    Ok(())
 }

@@ -4,9 +4,7 @@
 
 ghost use Rattle.std.specs.Prelude.{◌≤◌};
 
-use rules::{
-    CountAnswer, ForcedPipeline, ForcedPosition, ForcedPositions, Next, Verdict, World, Written,
-};
+use rules::{ForcedPipeline, ForcedPosition, ForcedPositions, World};
 use std::io;
 
 fn text(rt: &impl Print, words: &[u8]) -> io::Result<()> {
@@ -28,11 +26,11 @@ fn number(rt: &impl Print, n: usize) -> io::Result<()> {
 
 fn print_length(rt: &impl Print, queue: ForcedPipeline) -> io::Result<()> {
     match queue::len(queue) {
-        CountAnswer::Is(n) => {
+        Ok(n) => {
             text(rt, b", length ")?;
             number(rt, n)?;
         }
-        CountAnswer::Refused(n) => {
+        Err(n) => {
             text(rt, b", length refused ")?;
             number(rt, n as usize)?;
         }
@@ -42,14 +40,14 @@ fn print_length(rt: &impl Print, queue: ForcedPipeline) -> io::Result<()> {
 
 fn print_empty(rt: &impl Print, queue: ForcedPipeline) -> io::Result<()> {
     match queue::is_empty(queue) {
-        Verdict::Is(empty) => {
+        Ok(empty) => {
             if empty {
                 text(rt, b"empty\n")
             } else {
                 text(rt, b"not empty\n")
             }
         }
-        Verdict::Refused(n) => {
+        Err(n) => {
             text(rt, b"empty refused ")?;
             number(rt, n as usize)?;
             text(rt, b"\n")
@@ -66,8 +64,8 @@ fn add(
     let answer = grown.answer;
     text(rt, b"add ")?;
     match answer {
-        Written::Done => number(rt, 0)?,
-        Written::Refused(n) => number(rt, n as usize)?,
+        Ok(()) => number(rt, 0)?,
+        Err(n) => number(rt, n as usize)?,
     }
     let after = grown.queue;
     print_length(rt, after)?;
@@ -79,9 +77,9 @@ fn take(rt: &impl Print, queue: ForcedPipeline) -> io::Result<ForcedPipeline> {
     let next = taken.next;
     text(rt, b"take ")?;
     match next {
-        Next::Taken(position) => number(rt, position.colour as usize)?,
-        Next::Nothing => text(rt, b"nothing")?,
-        Next::Refused(n) => {
+        Ok(Some(position) => number(rt, position.colour as usize)?,
+        Ok(None) => text(rt, b"nothing")?,
+        Err(n) => {
             text(rt, b"refused ")?;
             number(rt, n as usize)?;
         }

@@ -12,8 +12,6 @@ use Rattle.rules.specs.Forced.{padded, no_position, queued, queue_of}
 use Rattle.rules.specs.declared.ForcedPosition.{ForcedPosition}
 use Rattle.rules.specs.declared.ForcedPipeline.{ForcedPipeline}
 use Rattle.rules.specs.declared.Taken.{Taken}
-use Rattle.rules.specs.declared.Next.TheVariants as Next·
-use Rattle.rules.specs.declared.Next.TheVariants.{Nothing}
 use Rattle.queue_entries.specs.Unchecked.{next_out}
 
 pub queue-is : (es l : List ForcedPosition) (n : ℕ) → es ≡ padded queue_room l → n ≡ length l

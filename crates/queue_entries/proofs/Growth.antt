@@ -15,13 +15,12 @@ use Rattle.rules.specs.Forced.{queued, queue_of, padded, is_queued, with_positio
 use Rattle.rules.specs.declared.ForcedPosition.{ForcedPosition}
 use Rattle.rules.specs.declared.ForcedPipeline.{ForcedPipeline}
 use Rattle.rules.specs.declared.Grown.{Grown}
-use Rattle.rules.specs.declared.Written.{Written}
-use Rattle.rules.specs.declared.Written.TheVariants.{Done, Refused}
 use mathlib.Core.Logic.{⊎_elim}
 use Rattle.rules.proofs.Queues.{with-old, with-new, with-one, with_none, grows}
 use Rattle.queue_entries.specs.Unchecked.{Tidy, grown_to}
 use Rattle.queue_entries.proofs.Places.{still, none_left}
 use Rattle.queue_entries.proofs.Entries.{queue-is, queued-of, filled}
+use Rattle.rules.specs.Answers.{Answer}
 
 -- with room for all of l, and without
 module _ (q : ForcedPipeline) (l : List ForcedPosition) where
@@ -121,7 +120,7 @@ module _ (q : ForcedPipeline) (more : List ForcedPosition) (n : ℕ) where
       grows-too-far m a =
           let l : List ForcedPosition = with_position (queued grown) (get_or more i d) in
           let w = was-none grown l g m e a in
-          ap (λ (x : Written). record { answer = x; queue = q }) w.1
+          ap (λ (x : Answer Unit). record { answer = x; queue = q }) w.1
           ∙ grown-none q (with_positions (queued q) (take n more)) (omega (arith, w.0, grows l (drop (i + 1) (take n more)), ap length next))
 
   pub grows_end : (grown : ForcedPipeline) (i : ℕ) → n ≤ i → Grows q more n grown i

@@ -8,7 +8,7 @@ ghost use Rattle.rules.specs.Places.{same_place};
 ghost use Rattle.rules.specs.Forced.{queued, offered, queue_of, is_queued, with_position, with_positions};
 ghost use Rattle.queue_entries.specs.Unchecked.{Part, Tidy, Adding, grown_to, next_out};
 
-use rules::{ForcedPipeline, ForcedPosition, ForcedPositions, Grown, Next, Taken, World, Written};
+use rules::{ForcedPipeline, ForcedPosition, ForcedPositions, Grown, Refusal, Taken, World};
 
 // A queue with no entry.
 pub fn new() -> ForcedPipeline
@@ -46,13 +46,13 @@ pub fn take_next(queue: ForcedPipeline) -> Taken
     ensures { result ≡ next_out (queued queue) }
 {
     if queue.len == 0 {
-        let next = Next::Nothing;
+        let next = Ok(None);
         let left = new();
         return Taken { next, queue: left };
     }
     let entries = queue.entries;
     let first = entries[0];
-    let next = Next::Taken(first);
+    let next = Ok(Some(first);
     let left = rest_from(queue, 1);
     Taken { next, queue: left }
 }
@@ -61,11 +61,7 @@ pub fn take_next(queue: ForcedPipeline) -> Taken
 pub fn same_place(place: World, other: World) -> bool
     ensures { result ≡ same_place place other }
 {
-    if place.0 == other.0 {
-        place.1 == other.1
-    } else {
-        false
-    }
+    place.0 == other.0 && place.1 == other.1
 }
 
 // Whether one of the entries stands at the place.
@@ -94,7 +90,7 @@ fn add_position(before: ForcedPipeline, position: ForcedPosition) -> Grown
 {
     let place = position.coordinates;
     if is_queued(before, place) {
-        let answer = Written::Done;
+        let answer = Ok(());
         return Grown {
             answer,
             queue: before,
@@ -102,7 +98,7 @@ fn add_position(before: ForcedPipeline, position: ForcedPosition) -> Grown
     }
     let n = before.len;
     if n == rules::QUEUE_ROOM {
-        let answer = Written::Refused(rules::ROOM);
+        let answer = Err(Refusal::Room);
         return Grown {
             answer,
             queue: before,
@@ -114,7 +110,7 @@ fn add_position(before: ForcedPipeline, position: ForcedPosition) -> Grown
         entries,
         len: n + 1,
     };
-    let answer = Written::Done;
+    let answer = Ok(());
     Grown {
         answer,
         queue: longer,
@@ -134,14 +130,14 @@ pub fn add_positions(queue: ForcedPipeline, positions: ForcedPositions) -> Grown
         let position = more[i];
         let step = add_position(grown, position);
         let answer = step.answer;
-        let Written::Done = answer else {
+        let Ok(()) = answer else {
             return Grown { answer, queue };
         };
         let after = step.queue;
         grown = after;
         i += 1;
     }
-    let answer = Written::Done;
+    let answer = Ok(());
     Grown {
         answer,
         queue: grown,

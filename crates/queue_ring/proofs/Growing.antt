@@ -15,11 +15,9 @@ use borrow.Author.Tests.{le-leb, lt-leb}
 use Rattle.base.specs.Refusal.{refusal}
 use Rattle.base.proofs.Numbers.{lt-or-le}
 use Rattle.rules.specs.Bounds.{queue_room, ROOM}
-use Rattle.rules.specs.Answers.{count_answer}
+use Rattle.rules.specs.Answers.{Answer, count_answer}
 use Rattle.rules.specs.Forced.{is_queued, with_position, with_positions, room_checks}
 use Rattle.rules.specs.declared.ForcedPosition.{ForcedPosition}
-use Rattle.rules.specs.declared.CountAnswer.{CountAnswer}
-use Rattle.rules.specs.declared.CountAnswer.TheVariants.{Is, Refused}
 use Rattle.rules.proofs.Queues.{with-old, with-new, one_grows, with-one, with_none, grows}
 use Rattle.queue_entries.proofs.Places.{still, none_left}
 use Rattle.queue_ring.specs.Ring.{Slots, slots, slot_of, waiting, Ring, Grows}
@@ -28,7 +26,7 @@ use Rattle.queue_ring.proofs.Ring.{length-waiting, put_last, put-kept, put_last-
 -- ---- the answer
 
 module _ (l : List ForcedPosition) where
-  abbrev pub room_answer : CountAnswer
+  abbrev pub room_answer : Answer ℕ
   room_answer = count_answer (refusal (room_checks l)) (length l)
 
   pub has_room : length l ≤ queue_room → Is (length l) ≡ room_answer
@@ -122,7 +120,7 @@ module _ (old : Slots) (first len : ℕ) (more : List ForcedPosition) (n : ℕ) 
   adding-from h = record { ring = h; longer = omega arith; kept = λ m g. refl; rest = refl }
 
   module _ (new : Slots) (wait i : ℕ) (d : ForcedPosition) (h : i < n) (k : n ≤ length more) (s : Adding old first len more n new wait i)
-      (a : CountAnswer) (after : Slots) (g : Grows new first wait (with_position (waiting new first wait) (get_or more i d)) a after) where
+      (a : Answer ℕ) (after : Slots) (g : Grows new first wait (with_position (waiting new first wait) (get_or more i d)) a after) where
     abbrev one : List ForcedPosition
     one = with_position (waiting new first wait) (get_or more i d)
 

@@ -4,11 +4,10 @@ use Rattle.std.specs.Prelude.{ℕ, ◌+◌, ◌%◌, ◌<◌, ◌≤◌, ◌≡�
 use Rattle.base.specs.Tables.{tab}
 use Rattle.base.specs.Refusal.{refusal}
 use Rattle.rules.specs.Bounds.{queue_room}
-use Rattle.rules.specs.Answers.{count_answer}
+use Rattle.rules.specs.Answers.{Answer, count_answer}
 use Rattle.rules.specs.Forced.{room_checks}
 use Rattle.rules.specs.Promises.{Lent, before, after}
 use Rattle.rules.specs.declared.ForcedPosition.{ForcedPosition}
-use Rattle.rules.specs.declared.CountAnswer.{CountAnswer}
 
 pub record Slots : Type 0 where
   pub rows : List ℤ
@@ -50,7 +49,7 @@ pub record Ring (s : Slots) (first len : ℕ) : Type 0 where
 
 -- an adding that is to make l of the entries: how many wait then, or ROOM; the entries that waited stand as they did, and where there is
 -- room for all of l, it waits
-pub record Grows (old : Slots) (first len : ℕ) (l : List ForcedPosition) (r : CountAnswer) (new : Slots) : Type 0 where
+pub record Grows (old : Slots) (first len : ℕ) (l : List ForcedPosition) (r : Answer ℕ) (new : Slots) : Type 0 where
   pub answered : r ≡ count_answer (refusal (room_checks l)) (length l)
   pub kept : (m : ℕ) → m ≤ len → waiting new first m ≡ waiting old first m
   pub grown : length l ≤ queue_room → waiting new first (length l) ≡ l

@@ -9,7 +9,7 @@ ghost use Rattle.rules.specs.Promises.{before, after};
 ghost use Rattle.queue_ring.specs.Ring.{slots, slots_before, slots_after, in_slot, slot_of, waiting, Ring, Grows};
 
 use queue_entries::same_place;
-use rules::{CountAnswer, ForcedPosition, ForcedPositions, World};
+use rules::{ForcedPosition, ForcedPositions, Refusal, World};
 
 // The slot of entry i of a queue.
 pub fn slot_of(first: usize, i: usize) -> usize
@@ -95,21 +95,21 @@ fn add_position(
     first: usize,
     len: usize,
     position: ForcedPosition,
-) -> CountAnswer
+) -> Result<usize, Refusal>
     requires { Ring (slots rows.old cols.old colours.old) first len }
     ensures { Grows (slots_before rows cols colours) first len
         (with_position (waiting (slots_before rows cols colours) first len) position) result (slots_after rows cols colours) }
 {
     let place = position.coordinates;
     if is_queued(rows, cols, first, len, place) {
-        return CountAnswer::Is(len);
+        return Ok(len);
     }
     if len == rules::QUEUE_ROOM {
-        return CountAnswer::Refused(rules::ROOM);
+        return Err(Refusal::Room);
     }
     let at = slot_of(first, len);
     put_entry(rows, cols, colours, at, position);
-    CountAnswer::Is(len + 1)
+    Ok(len + 1)
 }
 
 // All of them, or, where there is not room for all, none: what was put behind the entries is not read then.
@@ -120,7 +120,7 @@ pub fn add_positions(
     first: usize,
     len: usize,
     positions: ForcedPositions,
-) -> CountAnswer
+) -> Result<usize, Refusal>
     requires { Ring (slots rows.old cols.old colours.old) first len × (positions.len ≤ added_room) }
     ensures { Grows (slots_before rows cols colours) first len
         (with_positions (waiting (slots_before rows cols colours) first len) (offered positions)) result (slots_after rows cols colours) }
@@ -132,11 +132,11 @@ pub fn add_positions(
     while i < n {
         let position = more[i];
         let answer = add_position(rows, cols, colours, first, grown, position);
-        let CountAnswer::Is(now) = answer else {
+        let Ok(now) = answer else {
             return answer;
         };
         grown = now;
         i += 1;
     }
-    CountAnswer::Is(grown)
+    Ok(grown)
 }

@@ -2,7 +2,7 @@
 // hexadecimal digits: 3ff0.. is 1.0, 3fe0.. 0.5, 3fd0.. 0.25. "Chequer" is the two tiles of the listing program's sample.
 #![tactic(auto)]
 
-use rules::{Offset, Span, World, Written};
+use rules::{Offset, Refusal, Span, Spans, World};
 use std::io;
 
 const CHEQUER: [u8; 18] = [1, 2, 1, 2, 1, 2, 1, 2, 1, 2, 1, 2, 1, 2, 1, 2, 1, 2];
@@ -45,10 +45,10 @@ fn line(rt: &impl Print, xs: &[f64]) -> io::Result<()> {
     plane_of(rt, xs, xs.len())
 }
 
-fn answered(rt: &impl Print, answer: Written) -> io::Result<()> {
+fn answered(rt: &impl Print, answer: Result<(), Refusal>) -> io::Result<()> {
     match answer {
-        Written::Done => text(rt, b"done\n"),
-        Written::Refused(n) => {
+        Ok(()) => text(rt, b"done\n"),
+        Err(n) => {
             text(rt, b"refused ")?;
             rt.print(n as u64)?;
             text(rt, b"\n")
@@ -356,12 +356,12 @@ fn lay_score(rt: &impl Print, place: World, offset: Offset) -> io::Result<()> {
     plane_of(rt, &scores, 5)
 }
 
-fn lift_score(rt: &impl Print, rowspan: Span, colspan: Span) -> io::Result<()> {
+fn lift_score(rt: &impl Print, spans: Spans) -> io::Result<()> {
     let counts = chequer_counts();
     let mut scores = [7.0f64; 25];
     answered(
         rt,
-        scores::aggregate_feasibility(&mut scores, &counts, 5, 5, 2, rowspan, colspan),
+        scores::aggregate_feasibility(&mut scores, &counts, 5, 5, 2, spans),
     )?;
     plane_of(rt, &scores, 5)
 }
@@ -422,7 +422,7 @@ fn both_scores(
     line(rt, scores)
 }
 
-fn scores_refused(rt: &impl Print) -> io::Result<()> {
+fn check_scores(rt: &impl Print) -> io::Result<()> {
     let here = World(0, 0);
     let all = Span(0, 3);
     let counts = [2u32, 1, 2];
@@ -476,5 +476,5 @@ fn main(rt: HostRuntime) -> io::Result<()> {
     products_refused(&rt)?;
     factors_refused(&rt)?;
     scoring(&rt)?;
-    scores_refused(&rt)
+    check_scores(&rt)
 }

@@ -3,64 +3,60 @@
 #![tactic(auto)]
 
 ghost use Rattle.std.specs.Prelude.{◌≡◌, true};
-ghost use Rattle.base.specs.Refusal.{refusal};
+ghost use Rattle.rules.specs.Answers.{checked};
 ghost use Rattle.rules.specs.Tests.{board_sides};
 ghost use Rattle.rules.specs.Scores.{counted_checks, score_checks, lift_score_checks};
 
-use rules::Span;
+use rules::{Refusal, Spans};
 
-pub fn counted_refused(scores: &[f64], counts: &[u32], rows: usize, cols: usize, tiles: usize) -> u8
+pub fn check_counted(scores: &[f64], counts: &[u32], rows: usize, cols: usize, tiles: usize) -> Result<(), Refusal>
     requires { board_sides rows cols ≡ true }
-    ensures { result ≡ refusal (counted_checks scores.now counts.now rows cols tiles) }
+    ensures { result ≡ checked (counted_checks scores.now counts.now rows cols tiles) }
 {
-    if !check_sizes::floats_have_length(scores, rows * cols) {
-        return rules::LENGTH;
+    if !check_sizes::has_length(scores, rows * cols) {
+        return Err(Refusal::Length);
     }
-    if !check_sizes::words_have_length(counts, rows * cols) {
-        return rules::LENGTH;
+    if !check_sizes::has_length(counts, rows * cols) {
+        return Err(Refusal::Length);
     }
     if !check_sizes::tile_number_fits(tiles) {
-        return rules::LENGTH;
+        return Err(Refusal::Length);
     }
     if !check_contents::no_word_above(counts, tiles as u32) {
-        return rules::CELL;
+        return Err(Refusal::Cell);
     }
-    0
+    Ok(())
 }
 
-pub fn scores_refused(scores: &[f64], counts: &[u32], rows: usize, cols: usize, tiles: usize) -> u8
+pub fn check_scores(scores: &[f64], counts: &[u32], rows: usize, cols: usize, tiles: usize) -> Result<(), Refusal>
     requires { board_sides rows cols ≡ true }
-    ensures { result ≡ refusal (score_checks scores.now counts.now rows cols tiles) }
+    ensures { result ≡ checked (score_checks scores.now counts.now rows cols tiles) }
 {
-    let refused = counted_refused(scores, counts, rows, cols, tiles);
-    if refused != 0 {
-        return refused;
-    }
+    check_counted(scores, counts, rows, cols, tiles)?;
     if !check_contents::all_finite(scores) {
-        return rules::NUMBER;
+        return Err(Refusal::Number);
     }
-    0
+    Ok(())
 }
 
-pub fn spans_refused(
+pub fn check_spans(
     scores: &[f64],
     counts: &[u32],
     rows: usize,
     cols: usize,
     tiles: usize,
-    rowspan: Span,
-    colspan: Span,
-) -> u8
-    ensures { result ≡ refusal (lift_score_checks scores.now counts.now rows cols tiles rowspan colspan) }
+    spans: Spans,
+) -> Result<(), Refusal>
+    ensures { result ≡ checked (lift_score_checks scores.now counts.now rows cols tiles spans.rows spans.cols) }
 {
     if !check_sizes::board_sides(rows, cols) {
-        return rules::SHAPE;
+        return Err(Refusal::Shape);
     }
-    if rowspan.1 > rows {
-        return rules::SHAPE;
+    if spans.rows.1 > rows {
+        return Err(Refusal::Shape);
     }
-    if colspan.1 > cols {
-        return rules::SHAPE;
+    if spans.cols.1 > cols {
+        return Err(Refusal::Shape);
     }
-    scores_refused(scores, counts, rows, cols, tiles)
+    check_scores(scores, counts, rows, cols, tiles)
 }

@@ -7,11 +7,10 @@ use lib.Ieee.{Float}
 use Rattle.base.proofs.Chain.{gives-coincide}
 use Rattle.rules.specs.Promises.{ScoresPlain, ScoresWhole}
 use Rattle.rules.specs.declared.Span.{Span}
-use Rattle.rules.specs.declared.Written.{Written}
-use Rattle.rules.specs.declared.Written.TheVariants.{Done}
 use Rattle.rules.proofs.Answered.{was-written}
+use Rattle.rules.specs.Answers.{Answer}
 
-module _ (scores : List Float) (counts : List ℕ) (rows cols tiles : ℕ) {a c : Written} {l m : List Float} where
+module _ (scores : List Float) (counts : List ℕ) (rows cols tiles : ℕ) {a c : Answer Unit} {l m : List Float} where
   pub plain-score-near-coincides : (rs cs : Span)
       → ScoresPlain rows cols counts tiles rs cs scores a l → ScoresPlain rows cols counts tiles rs cs scores c m → (a ≡ c) × (l ≡ m)
   plain-score-near-coincides rs cs p q = gives-coincide p q

@@ -10,7 +10,6 @@ use Rattle.rules.specs.Scores.{fraction, lift_falls, plain_scores, whole_scores,
 use Rattle.rules.specs.Promises.{ScoresPlain, ScoresWhole}
 use Rattle.rules.proofs.Answered.{was-written}
 use Rattle.rules.specs.declared.Span.{Span}
-use Rattle.rules.specs.declared.Written.TheVariants.{Done}
 use Rattle.score_mean.proofs.Numbers.{fraction-upward, scored-numbers, whole_numbers}
 use Rattle.score_checks.proofs.Accept.{spans-pass, whole-passes}
 

@@ -3,12 +3,12 @@
 #![tactic(auto)]
 
 ghost use Rattle.std.specs.Prelude.{◌≡◌};
-ghost use Rattle.base.specs.Refusal.{refusal};
+ghost use Rattle.rules.specs.Answers.{checked};
 ghost use Rattle.rules.specs.Scores.{whole_score_checks};
 ghost use Rattle.rules.specs.Promises.{before, after, ScoresPlain, ScoresWhole};
 
-use rules::{Span, Written};
-use score_checks::counted_refused;
+use rules::{Refusal, Span, Spans};
+use score_checks::check_counted;
 use score_regions::score_region;
 
 // The plain score of each cell of the spans.
@@ -18,22 +18,21 @@ pub fn plain_score_near(
     rows: usize,
     cols: usize,
     tiles: usize,
-    rowspan: Span,
-    colspan: Span,
-) -> Written
-    ensures { ScoresPlain rows cols counts.now tiles rowspan colspan (before scores) result (after scores) }
+    spans: Spans,
+) -> Result<(), Refusal>
+    ensures { ScoresPlain rows cols counts.now tiles spans.rows spans.cols (before scores) result (after scores) }
 {
-    score_spans::score_spans(scores, false, counts, rows, cols, tiles, rowspan, colspan)
+    score_spans::score_spans(scores, false, counts, rows, cols, tiles, spans)
 }
 
 // The old scores are not asked about: none of them stays.
-fn whole_refused(scores: &[f64], counts: &[u32], rows: usize, cols: usize, tiles: usize) -> u8
-    ensures { result ≡ refusal (whole_score_checks scores.now counts.now rows cols tiles) }
+fn check_whole(scores: &[f64], counts: &[u32], rows: usize, cols: usize, tiles: usize) -> Result<(), Refusal>
+    ensures { result ≡ checked (whole_score_checks scores.now counts.now rows cols tiles) }
 {
     if !check_sizes::board_sides(rows, cols) {
-        return rules::SHAPE;
+        return Err(Refusal::Shape);
     }
-    counted_refused(scores, counts, rows, cols, tiles)
+    check_counted(scores, counts, rows, cols, tiles)
 }
 
 // The plain score of every cell of the board.
@@ -43,13 +42,10 @@ pub fn plain_score(
     rows: usize,
     cols: usize,
     tiles: usize,
-) -> Written
+) -> Result<(), Refusal>
     ensures { ScoresWhole rows cols counts.now tiles (before scores) result (after scores) }
 {
-    let refused = whole_refused(scores, counts, rows, cols, tiles);
-    if refused != 0 {
-        return Written::Refused(refused);
-    }
+    check_whole(scores, counts, rows, cols, tiles)?;
     score_region(
         scores,
         false,
@@ -59,5 +55,5 @@ pub fn plain_score(
         Span(0, rows),
         Span(0, cols),
     );
-    Written::Done
+    Ok(())
 }

@@ -9,7 +9,7 @@ ghost use Rattle.rules.specs.Tests.{tile_number_fits};
 ghost use Rattle.rules.specs.Promises.{before, after};
 ghost use Rattle.score_regions.specs.Region.{score_step, region_scored, past_targets, ScoresFit};
 
-use rules::Span;
+use rules::{Span, Spans};
 use score_mean::box_mean;
 
 // The cells of row r from the column left on.
@@ -38,16 +38,15 @@ pub fn score_region(
     counts: &[u32],
     tiles: usize,
     cols: usize,
-    rowspan: Span,
-    colspan: Span,
+    spans: Spans,
 )
-    requires { ScoresFit scores.old counts.now cols tiles rowspan colspan }
-    ensures { after scores ≡ region_scored squared counts.now tiles cols rowspan colspan (before scores) }
+    requires { ScoresFit scores.old counts.now cols tiles spans.rows spans.cols }
+    ensures { after scores ≡ region_scored squared counts.now tiles cols spans.rows spans.cols (before scores) }
 {
-    let mut r = rowspan.0;
-    while r < rowspan.1 {
-        let from = r * cols + colspan.0;
-        let to = r * cols + colspan.1;
+    let mut r = spans.rows.0;
+    while r < spans.rows.1 {
+        let from = r * cols + spans.cols.0;
+        let to = r * cols + spans.cols.1;
         score_row(
             &mut scores[from..to],
             squared,
@@ -55,7 +54,7 @@ pub fn score_region(
             tiles,
             cols,
             r,
-            colspan.0,
+            spans.cols.0,
         );
         r += 1;
     }

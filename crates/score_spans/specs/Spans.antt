@@ -3,13 +3,13 @@ use Rattle.std.specs.Prelude.{ℕ, min, Bool, List, Float}
 use Rattle.rules.specs.Scores.{lift_falls, scored, lift_score_checks}
 use Rattle.rules.specs.Promises.{Writes}
 use Rattle.rules.specs.declared.Span.{Span}
-use Rattle.rules.specs.declared.Written.{Written}
 use Rattle.score_mean.specs.Box.{term_of}
+use Rattle.rules.specs.Answers.{Answer}
 
 -- a span with the same cells whose start is not past its end
 abbrev pub ordered_span : Span → Span
 ordered_span s = record { 0 = min s.0 s.1; 1 = s.1 }
 
-abbrev pub ScoresSpans : Bool → ℕ → ℕ → List ℕ → ℕ → Span → Span → List Float → Written → List Float → Type 0
+abbrev pub ScoresSpans : Bool → ℕ → ℕ → List ℕ → ℕ → Span → Span → List Float → Answer Unit → List Float → Type 0
 ScoresSpans squared rows cols counts tiles rowspan colspan old =
     Writes (lift_score_checks old counts rows cols tiles rowspan colspan) (scored rows cols (lift_falls rowspan colspan) (term_of squared counts tiles) old) old

@@ -5,8 +5,8 @@ ghost use Rattle.std.specs.Prelude.{◌≡◌};
 ghost use Rattle.rules.specs.Promises.{before, after};
 ghost use Rattle.score_spans.specs.Spans.{ordered_span, ScoresSpans};
 
-use rules::{Span, Written};
-use score_checks::spans_refused;
+use rules::{Refusal, Span, Spans};
+use score_checks::check_spans;
 use score_regions::score_region;
 
 // The same cells by a span that doesn't end before it starts: one whose start isn't below its end is empty.
@@ -24,23 +24,19 @@ pub fn score_spans(
     rows: usize,
     cols: usize,
     tiles: usize,
-    rowspan: Span,
-    colspan: Span,
-) -> Written
-    ensures { ScoresSpans squared rows cols counts.now tiles rowspan colspan (before scores) result (after scores) }
+    spans: Spans,
+) -> Result<(), Refusal>
+    ensures { ScoresSpans squared rows cols counts.now tiles spans.rows spans.cols (before scores) result (after scores) }
 {
-    let refused = spans_refused(scores, counts, rows, cols, tiles, rowspan, colspan);
-    if refused != 0 {
-        return Written::Refused(refused);
-    }
+    check_spans(scores, counts, rows, cols, tiles, spans)?;
     score_region(
         scores,
         squared,
         counts,
         tiles,
         cols,
-        ordered(rowspan),
-        ordered(colspan),
+        ordered(spans.rows),
+        ordered(spans.cols),
     );
-    Written::Done
+    Ok(())
 }

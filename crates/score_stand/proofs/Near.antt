@@ -32,7 +32,6 @@ use Rattle.rules.specs.Promises.{panel}
 use Rattle.rules.specs.declared.World.{World}
 use Rattle.rules.specs.declared.Offset.{Offset}
 use Rattle.rules.specs.declared.Span.{Span}
-use Rattle.rules.specs.declared.Written.TheVariants.{Done}
 use Rattle.rules.proofs.Answered.{was-written}
 use Rattle.rules.proofs.Said.{count_at-said}
 use Rattle.places.proofs.Indices.{row-span, col-span, col-below}

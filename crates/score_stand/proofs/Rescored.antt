@@ -20,7 +20,6 @@ use Rattle.rules.specs.Board.{Panel, board_of}
 use Rattle.rules.specs.Promises.{panel}
 use Rattle.rules.specs.declared.World.{World}
 use Rattle.rules.specs.declared.Offset.{Offset}
-use Rattle.rules.specs.declared.Written.TheVariants.{Done}
 use Rattle.rules.proofs.Answered.{was-written}
 use Rattle.rules.proofs.Said.{counts-long}
 use Rattle.stand.specs.Runs.{State, start, lay, lift, call, refusal_in, acted, accepted_in, Plan, told, state_of, elsewhere}

@@ -7,11 +7,11 @@ use Rattle.rules.specs.Probabilities.{Region, region_of}
 use Rattle.rules.specs.Board.{Panel}
 use Rattle.rules.specs.Promises.{ScoresPlain, ScoresWhole}
 use Rattle.rules.specs.declared.World.{World}
-use Rattle.rules.specs.declared.Written.{Written}
 use Rattle.stand.specs.Runs.{State}
+use Rattle.rules.specs.Answers.{Answer}
 
 -- the board of a state is scored whole, as the contract of the call says it
-abbrev pub Rescores : State → List Float → Written → List Float → Type 0
+abbrev pub Rescores : State → List Float → Answer Unit → List Float → Type 0
 Rescores s old = ScoresWhole s.panel.rows s.panel.cols s.board.counts (tiles_in s.panel.tiles) old
 
 -- the plain scores of the board of a state
@@ -22,7 +22,7 @@ scores_in s = whole_scores s.panel.rows s.panel.cols s.board.counts (tiles_in s.
 abbrev pub round_of : Panel → World → Region
 round_of j place = region_of j.rows j.cols place j.offset 2
 
-abbrev pub RescoresRound : State → World → List Float → Written → List Float → Type 0
+abbrev pub RescoresRound : State → World → List Float → Answer Unit → List Float → Type 0
 RescoresRound s place old =
     let round : Region = round_of s.panel place in
     ScoresPlain s.panel.rows s.panel.cols s.board.counts (tiles_in s.panel.tiles) round.rows round.cols old

@@ -9,9 +9,9 @@ use Rattle.rules.specs.Promises.{ScoresLay, ScoresLift}
 use Rattle.rules.specs.declared.World.{World}
 use Rattle.rules.specs.declared.Offset.{Offset}
 use Rattle.rules.specs.declared.Span.{Span}
-use Rattle.rules.specs.declared.Written.{Written}
+use Rattle.rules.specs.Answers.{Answer}
 
-module _ (scores : List Float) (counts : List ℕ) (rows cols tiles : ℕ) {a c : Written} {l m : List Float} where
+module _ (scores : List Float) (counts : List ℕ) (rows cols tiles : ℕ) {a c : Answer Unit} {l m : List Float} where
   pub update-feasibility-coincides : (w : World) (o : Offset)
       → ScoresLay rows cols counts tiles w o scores a l → ScoresLay rows cols counts tiles w o scores c m → (a ≡ c) × (l ≡ m)
   update-feasibility-coincides w o p q = gives-coincide p q

@@ -22,7 +22,6 @@ use Rattle.rules.proofs.Answered.{was-written}
 use Rattle.rules.specs.declared.World.{World}
 use Rattle.rules.specs.declared.Offset.{Offset}
 use Rattle.rules.specs.declared.Span.{Span}
-use Rattle.rules.specs.declared.Written.TheVariants.{Done}
 use Rattle.rules.proofs.Floats.{upward, upward-number, finite_number, plus-upward, square-upward, over-upward, count-upward, count-positive, is-finite, all-at, all-tab, zero-upward}
 use Rattle.score_mean.proofs.Box.{box-is, box-length}
 use Rattle.scores.proofs.Accept.{lay-passes, lift-passes}

@@ -3,13 +3,13 @@
 #![tactic(auto)]
 
 ghost use Rattle.std.specs.Prelude.{◌≡◌, true};
-ghost use Rattle.base.specs.Refusal.{refusal};
+ghost use Rattle.rules.specs.Answers.{checked};
 ghost use Rattle.rules.specs.Tests.{board_sides};
 ghost use Rattle.rules.specs.Scores.{score_checks, lay_score_checks, lift_score_checks};
 ghost use Rattle.rules.specs.Promises.{before, after, ScoresLay, ScoresLift};
 ghost use Rattle.scores.specs.Ordered.{ordered_span};
 
-use rules::{Offset, Span, SpanAnswer, World, Written};
+use rules::{Offset, Refusal, Span, Spans, World};
 use score_regions::{past_targets, score_region};
 
 // How far the lay of a piece reaches; the text's name.
@@ -22,30 +22,30 @@ fn ordered(span: Span) -> Span
     Span(places::least(span.0, span.1), span.1)
 }
 
-// The refusal of the planes and the number of tiles of a score call, 0 where there is none.
-fn planes_refused(scores: &[f64], counts: &[u32], rows: usize, cols: usize, tiles: usize) -> u8
+// The checks of the planes and the number of tiles of a score call.
+fn check_planes(scores: &[f64], counts: &[u32], rows: usize, cols: usize, tiles: usize) -> Result<(), Refusal>
     requires { board_sides rows cols ≡ true }
-    ensures { result ≡ refusal (score_checks scores.now counts.now rows cols tiles) }
+    ensures { result ≡ checked (score_checks scores.now counts.now rows cols tiles) }
 {
-    if !check_sizes::floats_have_length(scores, rows * cols) {
-        return rules::LENGTH;
+    if !check_sizes::has_length(scores, rows * cols) {
+        return Err(Refusal::Length);
     }
-    if !check_sizes::words_have_length(counts, rows * cols) {
-        return rules::LENGTH;
+    if !check_sizes::has_length(counts, rows * cols) {
+        return Err(Refusal::Length);
     }
     if !check_sizes::tile_number_fits(tiles) {
-        return rules::LENGTH;
+        return Err(Refusal::Length);
     }
     if !check_contents::no_word_above(counts, tiles as u32) {
-        return rules::CELL;
+        return Err(Refusal::Cell);
     }
     if !check_contents::all_finite(scores) {
-        return rules::NUMBER;
+        return Err(Refusal::Number);
     }
-    0
+    Ok(())
 }
 
-fn lay_refused(
+fn check_lay(
     scores: &[f64],
     counts: &[u32],
     rows: usize,
@@ -53,40 +53,36 @@ fn lay_refused(
     tiles: usize,
     place: World,
     offset: Offset,
-) -> u8
-    ensures { result ≡ refusal (lay_score_checks scores.now counts.now rows cols tiles place offset) }
+) -> Result<(), Refusal>
+    ensures { result ≡ checked (lay_score_checks scores.now counts.now rows cols tiles place offset) }
 {
     if !check_sizes::board_sides(rows, cols) {
-        return rules::SHAPE;
+        return Err(Refusal::Shape);
     }
-    let refused = planes_refused(scores, counts, rows, cols, tiles);
-    if refused != 0 {
-        return refused;
-    }
-    places::place_refused(rows, cols, place, offset)
+    check_planes(scores, counts, rows, cols, tiles)?;
+    places::check_place(rows, cols, place, offset)
 }
 
-fn lift_refused(
+fn check_lift(
     scores: &[f64],
     counts: &[u32],
     rows: usize,
     cols: usize,
     tiles: usize,
-    rowspan: Span,
-    colspan: Span,
-) -> u8
-    ensures { result ≡ refusal (lift_score_checks scores.now counts.now rows cols tiles rowspan colspan) }
+    spans: Spans,
+) -> Result<(), Refusal>
+    ensures { result ≡ checked (lift_score_checks scores.now counts.now rows cols tiles spans.rows spans.cols) }
 {
     if !check_sizes::board_sides(rows, cols) {
-        return rules::SHAPE;
+        return Err(Refusal::Shape);
     }
-    if rowspan.1 > rows {
-        return rules::SHAPE;
+    if spans.rows.1 > rows {
+        return Err(Refusal::Shape);
     }
-    if colspan.1 > cols {
-        return rules::SHAPE;
+    if spans.cols.1 > cols {
+        return Err(Refusal::Shape);
     }
-    planes_refused(scores, counts, rows, cols, tiles)
+    check_planes(scores, counts, rows, cols, tiles)
 }
 
 // The lay score: after a lay, the mean of the fractions at each target and its neighbours.
@@ -98,25 +94,22 @@ pub fn update_feasibility(
     tiles: usize,
     place: World,
     offset: Offset,
-) -> Written
+) -> Result<(), Refusal>
     ensures { ScoresLay rows cols counts.now tiles place offset (before scores) result (after scores) }
 {
-    let refused = lay_refused(scores, counts, rows, cols, tiles, place, offset);
-    if refused != 0 {
-        return Written::Refused(refused);
-    }
+    check_lay(scores, counts, rows, cols, tiles, place, offset)?;
     // A place that was not refused has spans.
     let SpanAnswer::Spans(rowround, colround) = place_spans::get_region_spans(
         offset,
         place,
         ADJACENCY_LEVELS,
     ) else {
-        return Written::Refused(rules::PLACE);
+        return Err(Refusal::Place);
     };
     let rowspan = past_targets(rows, rowround);
     let colspan = past_targets(cols, colround);
     score_region(scores, false, counts, tiles, cols, rowspan, colspan);
-    Written::Done
+    Ok(())
 }
 
 // The lift score: for each cell of the spans, the mean of the squared fractions.
@@ -126,23 +119,19 @@ pub fn aggregate_feasibility(
     rows: usize,
     cols: usize,
     tiles: usize,
-    rowspan: Span,
-    colspan: Span,
-) -> Written
-    ensures { ScoresLift rows cols counts.now tiles rowspan colspan (before scores) result (after scores) }
+    spans: Spans,
+) -> Result<(), Refusal>
+    ensures { ScoresLift rows cols counts.now tiles spans.rows spans.cols (before scores) result (after scores) }
 {
-    let refused = lift_refused(scores, counts, rows, cols, tiles, rowspan, colspan);
-    if refused != 0 {
-        return Written::Refused(refused);
-    }
+    check_lift(scores, counts, rows, cols, tiles, spans)?;
     score_region(
         scores,
         true,
         counts,
         tiles,
         cols,
-        ordered(rowspan),
-        ordered(colspan),
+        ordered(spans.rows),
+        ordered(spans.cols),
     );
-    Written::Done
+    Ok(())
 }

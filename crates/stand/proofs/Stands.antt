@@ -31,7 +31,6 @@ use Rattle.rules.specs.Board.{Panel, shape_of, entry_in, Board, share, board_of}
 use Rattle.rules.specs.Promises.{panel, Freshens}
 use Rattle.rules.specs.declared.World.{World}
 use Rattle.rules.specs.declared.Offset.{Offset}
-use Rattle.rules.specs.declared.Written.TheVariants.{Done}
 use Rattle.rules.proofs.Answered.{was-written}
 use Rattle.stand.specs.Runs.{State, fresh, start, Call, Act, call, widen, refusal_in, acted, run, accepted_in, Plan, says, told, pieces_on, state_of, within_one, exactly_two}
 use Rattle.rules.proofs.Said.{weight-at, count_at-said}

@@ -14,12 +14,12 @@ use Rattle.rules.specs.Forced.{admits, is_forced, forced_there, forced_round, wi
 use Rattle.rules.specs.Board.{Panel, Board}
 use Rattle.rules.specs.ForcedRun.{Run, run_out}
 use Rattle.rules.specs.declared.World.{World}
-use Rattle.rules.specs.declared.GenerationBounds.{GenerationBounds}
 use Rattle.rules.specs.declared.ForcedPosition.{ForcedPosition}
 use Rattle.rules.proofs.Queues.{each-with, each-forced}
 use Rattle.stand_forced.proofs.Steps.{by-run}
+use Rattle.rules.specs.declared.BoundingBox.{BoundingBox}
 
-module _ (j : Panel) (count : ℕ) (bounds : GenerationBounds) where
+module _ (j : Panel) (count : ℕ) (bounds : Option BoundingBox) where
   -- these entries are admitted by the box
   abbrev Inside : List ForcedPosition → Type 0
   Inside l = Each (λ e. admits bounds e.coordinates ≡ true) l

@@ -32,8 +32,6 @@ use Rattle.rules.specs.Board.{Panel, Board, shape_of, entry_in, counts_of, board
 use Rattle.rules.specs.ForcedRun.{Run, still_forced, queueing, taking, stepped, begun, run_out, run_checks, after_run}
 use Rattle.rules.specs.Promises.{board, panel}
 use Rattle.rules.specs.declared.World.{World}
-use Rattle.rules.specs.declared.GenerationBounds.{GenerationBounds}
-use Rattle.rules.specs.declared.GenerationBounds.TheVariants.{Unbounded}
 use Rattle.rules.specs.declared.ForcedPosition.{ForcedPosition}
 use Rattle.rules.proofs.Choices.{corner}
 use Rattle.rules.proofs.Fewer.{lists-fewer, under-lay, recount-less}
@@ -45,6 +43,7 @@ use Rattle.stand_forced.specs.Moves.{lays_of}
 use Rattle.rules.proofs.Listed.{still-off, still-in, still-listed}
 use Rattle.stand_forced.proofs.Steps.{laying_with, by-run}
 use Rattle.stand_forced.proofs.Waiting.{Entered, enters, keeps, next-kept}
+use Rattle.rules.specs.declared.BoundingBox.{BoundingBox}
 
 -- the piece of an entry, and of entries in order
 abbrev piece_of : ForcedPosition → Piece
@@ -71,7 +70,7 @@ module _ (j : Panel) where
   one-in-turn c [] e h on = (on, tt)
   one-in-turn c (x ∷ l) e (first, h) on = (first, one-in-turn (laid (shape_of j) j.tiles c (entry_in j x.coordinates) x.colour) l e h on)
 
-module _ (j : Panel) (count : ℕ) (bounds : GenerationBounds) (b : Board) (place : World) where
+module _ (j : Panel) (count : ℕ) (bounds : Option BoundingBox) (b : Board) (place : World) where
   abbrev at : ℕ → Run
   at n = run_out j count bounds b place n
 
@@ -146,7 +145,7 @@ module _ (j : Panel) (count : ℕ) (bounds : GenerationBounds) (b : Board) (plac
 
 -- ---- as calls
 
-module _ (j : Panel) (sound : Sound (shape_of j)) (count : ℕ) (bounds : GenerationBounds) (p : List ℕ) (good : Good j p) (place : World) (budget : ℕ)
+module _ (j : Panel) (sound : Sound (shape_of j)) (count : ℕ) (bounds : Option BoundingBox) (p : List ℕ) (good : Good j p) (place : World) (budget : ℕ)
     (accepted : refusal (run_checks j count (of_pieces j p) place bounds budget) ≡ 0) where
   abbrev moment : ℕ → Run
   moment n = run_out j count bounds (of_pieces j p) place n

@@ -30,9 +30,7 @@ use Rattle.rules.specs.Forced.{listed_at, forced_there, forced_round, is_queued,
 use Rattle.rules.specs.Board.{Panel, Board, shape_of, entry_in, laid}
 use Rattle.rules.specs.ForcedRun.{Run, forced_by, run_checks, taking, stepped, run_out, running}
 use Rattle.rules.specs.declared.World.{World}
-use Rattle.rules.specs.declared.GenerationBounds.{GenerationBounds}
 use Rattle.rules.specs.declared.ForcedPosition.{ForcedPosition}
-use Rattle.rules.specs.declared.RunAnswer.TheVariants as RunAnswer·
 use Rattle.rules.proofs.Fewer.{under-lay}
 use Rattle.rules.proofs.Queues.{each-with, each-forced}
 use Rattle.rules.proofs.ForcedRun.{by-step, steps-full, steps-none, steps_next, begun-room, stays}
@@ -42,6 +40,7 @@ use Rattle.stand_forced.specs.Moves.{bare_cells}
 use Rattle.rules.proofs.Listed.{listed-less, still-in}
 use Rattle.stand_forced.proofs.Steps.{After, by-taking, all-taken}
 use Rattle.stand_forced.proofs.Waiting.{Entered, enters, Apart, Waits, forced-one, keeps, next-kept, drop-is}
+use Rattle.rules.specs.declared.BoundingBox.{BoundingBox}
 
 -- ---- what waits
 
@@ -146,7 +145,7 @@ module _ (j : Panel) (count : ℕ) where
           (λ idle. lists-some k (ltb-true 0 _ (rw idle at (and_right (not (laid_on q k)) _ on))))))
 
   -- a place that waits after an adding waited before, or lists a colour
-  waits-from : (p : List ℕ) (rest : List ForcedPosition) (bounds : GenerationBounds) (place v : World)
+  waits-from : (p : List ℕ) (rest : List ForcedPosition) (bounds : Option BoundingBox) (place v : World)
       → is_queued v (with_positions rest (forced_round j.kind p j.rows j.cols j.tiles count place j.offset bounds)) ≡ true
       → (is_queued v rest ≡ true) ⊎ (0 < length (listed_on (entry_in j v) p))
   unfolding forced_there
@@ -162,7 +161,7 @@ module _ (j : Panel) (count : ℕ) where
 
 -- ---- at every moment of an accepted run
 
-module _ (j : Panel) (count : ℕ) (bounds : GenerationBounds) (b : Board) (place : World) (enter : Entered j count b.pieces) where
+module _ (j : Panel) (count : ℕ) (bounds : Option BoundingBox) (b : Board) (place : World) (enter : Entered j count b.pieces) where
   abbrev at : ℕ → Run
   at n = run_out j count bounds b place n
 
@@ -309,7 +308,7 @@ spent-by zero false [] taken laid t u a = absurd (let z : ◌≡◌ {A = ℕ} 0 
 spent-by zero false (e ∷ rest) taken laid t u a = (refl, refl, e, rest, refl)
 spent-by (suc n) full l taken laid t u a = absurd (let z : ◌≡◌ {A = ℕ} 0 1 = cc in omega arith)
 
-module _ (j : Panel) (count : ℕ) (bounds : GenerationBounds) (b : Board) (place : World) where
+module _ (j : Panel) (count : ℕ) (bounds : Option BoundingBox) (b : Board) (place : World) where
   module _ (budget : ℕ) (accepted : refusal (run_checks j count b place bounds budget) ≡ 0) where
     enter : Entered j count b.pieces
     enter = enters j count b place bounds budget accepted

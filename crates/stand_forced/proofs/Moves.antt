@@ -36,8 +36,6 @@ use Rattle.rules.specs.ForcedRun.{still_forced, queueing, taking, stepped, begun
 use Rattle.rules.specs.Promises.{panel}
 use Rattle.rules.specs.declared.World.{World}
 use Rattle.rules.specs.declared.Offset.{Offset}
-use Rattle.rules.specs.declared.GenerationBounds.{GenerationBounds}
-use Rattle.rules.specs.declared.GenerationBounds.TheVariants.{Unbounded}
 use Rattle.rules.specs.declared.ForcedPosition.{ForcedPosition}
 use Rattle.rules.proofs.Choices.{corner}
 use Rattle.stand.specs.Runs.{State, start, lay, lift, Act, call, widen, refusal_in, acted, run, accepted_in, Plan, told, state_of, Naming, elsewhere}
@@ -50,6 +48,7 @@ use Rattle.stand.proofs.Never.{may-both, as-if-never}
 use Rattle.stand.proofs.Choices.{run-counted}
 use Rattle.stand_forced.specs.Moves.{Move, act, forced, refusal_by, moved, played, lays_of, counted_as, acts_of, NamingAll}
 use Rattle.stand_forced.proofs.Lays.{forced-raises-none, forced-lays}
+use Rattle.rules.specs.declared.BoundingBox.{BoundingBox}
 
 -- ---- two cases, by evaluation
 
@@ -155,7 +154,7 @@ at-its-moment s (x ∷ some) a others all =
 
 module _ (j : Panel) (sound : SoundKind j.kind) where
   -- on the board of a plan
-  forced-counts : (t : Plan) → Fine j t → (count : ℕ) (place : World) (bounds : GenerationBounds) (budget : ℕ)
+  forced-counts : (t : Plan) → Fine j t → (count : ℕ) (place : World) (bounds : Option BoundingBox) (budget : ℕ)
       → let s = state_at t in
       let m = forced count place bounds budget in
       (accepted_in s (counted_as s m) ≡ counted_as s m) × (run s (counted_as s m) ≡ moved s m)
@@ -206,7 +205,7 @@ module _ (j : Panel) (sound : SoundKind j.kind) where
       (played-is (opening j) moves (opening-fine j))
 
   -- "Demand 3 counts each lay made here as a lay"
-  pub each-accepted : (moves : List Move) → Widenable j.kind (acts_of (start j) moves) → (count : ℕ) (place : World) (bounds : GenerationBounds) (budget : ℕ)
+  pub each-accepted : (moves : List Move) → Widenable j.kind (acts_of (start j) moves) → (count : ℕ) (place : World) (bounds : Option BoundingBox) (budget : ℕ)
       → let s = played (start j) moves in
       let m = forced count place bounds budget in
       (accepted_in s (counted_as s m) ≡ counted_as s m) × (run s (counted_as s m) ≡ moved s m)
@@ -224,7 +223,7 @@ module _ (j : Panel) (sound : SoundKind j.kind) where
   pub moves-counted : (moves : List Move) → Widenable j.kind (acts_of (start j) moves) → Counted (played (start j) moves)
   moves-counted moves may = subst Counted (sym (as-acts moves may)) (run-counted j sound (acts_of (start j) moves) may)
 
-  pub moves-raise-none : (moves : List Move) → Widenable j.kind (acts_of (start j) moves) → (count : ℕ) (place : World) (bounds : GenerationBounds) (budget : ℕ)
+  pub moves-raise-none : (moves : List Move) → Widenable j.kind (acts_of (start j) moves) → (count : ℕ) (place : World) (bounds : Option BoundingBox) (budget : ℕ)
       → let s = played (start j) moves in (v : World) → count_at (moved s (forced count place bounds budget)) v ≤ count_at s v
   moves-raise-none moves may count place bounds budget v =
       let s : State = played (start j) moves in
@@ -295,7 +294,7 @@ module _ (j : Panel) (sound : SoundKind j.kind) where
 
   -- the same of a piece that a forced run laid: the run is replaced by the lays that it made before and after the piece. It names the number
   -- of colours that the moves between name.
-  pub forced-never : (before between after : List Move) (count : ℕ) (place : World) (bounds : GenerationBounds) (budget : ℕ)
+  pub forced-never : (before between after : List Move) (count : ℕ) (place : World) (bounds : Option BoundingBox) (budget : ℕ)
       (xs : List ForcedPosition) (e : ForcedPosition) (ys : List ForcedPosition)
       → let there = played (start j) before in
       let m = forced count place bounds budget in
@@ -345,7 +344,7 @@ module _ (rows cols : ℕ) (tiles : List ℕ) (offset : Offset) where
   pub flat-moves-counted : (moves : List Move) → Counted (played (start this) moves)
   flat-moves-counted moves = moves-counted this flat_sound moves (flat-may (acts_of (start this) moves))
 
-  pub flat-moves-raise-none : (moves : List Move) (count : ℕ) (place : World) (bounds : GenerationBounds) (budget : ℕ)
+  pub flat-moves-raise-none : (moves : List Move) (count : ℕ) (place : World) (bounds : Option BoundingBox) (budget : ℕ)
       → let s = played (start this) moves in (v : World) → count_at (moved s (forced count place bounds budget)) v ≤ count_at s v
   flat-moves-raise-none moves = moves-raise-none this flat_sound moves (flat-may (acts_of (start this) moves))
 
@@ -360,7 +359,7 @@ module _ (rows cols : ℕ) (tiles : List ℕ) (offset : Offset) where
       forced-stay this flat_sound before between after w count colour (flat-may (acts_of (start this) before))
       (flat-may (acts_of (acted (played (start this) before) (call (lay count w colour))) between))
 
-  pub flat-forced-never : (before between after : List Move) (count : ℕ) (place : World) (bounds : GenerationBounds) (budget : ℕ)
+  pub flat-forced-never : (before between after : List Move) (count : ℕ) (place : World) (bounds : Option BoundingBox) (budget : ℕ)
       (xs : List ForcedPosition) (e : ForcedPosition) (ys : List ForcedPosition)
       → let there = played (start this) before in
       let m = forced count place bounds budget in

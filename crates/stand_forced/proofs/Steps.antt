@@ -18,12 +18,12 @@ use Rattle.rules.specs.Forced.{with_positions}
 use Rattle.rules.specs.Board.{Panel, Board}
 use Rattle.rules.specs.ForcedRun.{Run, forced_by, still_forced, taking, run_out}
 use Rattle.rules.specs.declared.World.{World}
-use Rattle.rules.specs.declared.GenerationBounds.{GenerationBounds}
 use Rattle.rules.specs.declared.ForcedPosition.{ForcedPosition}
 use Rattle.rules.proofs.ForcedRun.{queued_by, laying_of, dropping_of, added-room, added_full, laid_then, dropped-then, by-step, begun-room, by-steps}
 use Rattle.rules.proofs.Listed.{not_none}
+use Rattle.rules.specs.declared.BoundingBox.{BoundingBox}
 
-module _ (j : Panel) (count : ℕ) (bounds : GenerationBounds) where
+module _ (j : Panel) (count : ℕ) (bounds : Option BoundingBox) where
   -- the run when an entry is laid, with any queue
   abbrev pub laying_with : Run → ForcedPosition → List ForcedPosition → Bool → Run
   laying_with s e l full =

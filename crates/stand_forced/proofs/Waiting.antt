@@ -24,7 +24,6 @@ use Rattle.rules.specs.Forced.{admits, listed_at, forces_one, is_forced, forced_
 use Rattle.rules.specs.Board.{Panel, Board, shape_of, entry_in, laid}
 use Rattle.rules.specs.ForcedRun.{Run, still_forced, run_checks, run_out}
 use Rattle.rules.specs.declared.World.{World}
-use Rattle.rules.specs.declared.GenerationBounds.{GenerationBounds}
 use Rattle.rules.specs.declared.ForcedPosition.{ForcedPosition}
 use Rattle.rules.proofs.Fewer.{under-lay}
 use Rattle.rules.proofs.Queues.{with-old, with-new, with-one, with_none, each-with, each-forced}
@@ -34,6 +33,7 @@ use Rattle.stand.proofs.Walls.{On, one_place, place-itself, place-back, sides-in
 use Rattle.stand.proofs.Calls.{InBounds, Named}
 use Rattle.rules.proofs.Listed.{not_none, OneOr, one_less, only_one, there, still_one, is-still}
 use Rattle.stand_forced.proofs.Steps.{by-run}
+use Rattle.rules.specs.declared.BoundingBox.{BoundingBox}
 
 -- ---- what an accepted call finds
 
@@ -43,7 +43,7 @@ pub record Entered (j : Panel) (count : ℕ) (p : List ℕ) : Type 0 where
   pub named : Named j.tiles count
   pub stored : pieces_stored p count ≡ true
 
-pub enters : (j : Panel) (count : ℕ) (b : Board) (place : World) (bounds : GenerationBounds) (budget : ℕ)
+pub enters : (j : Panel) (count : ℕ) (b : Board) (place : World) (bounds : Option BoundingBox) (budget : ℕ)
     → refusal (run_checks j count b place bounds budget) ≡ 0 → Entered j count b.pieces
 unfolding has_length
 enters j count b place bounds budget e =
@@ -96,7 +96,7 @@ pub record Waits (j : Panel) (count : ℕ) (p : List ℕ) (e : ForcedPosition) :
 
 module _ (j : Panel) (count : ℕ) where
   -- a forced place
-  module _ (p : List ℕ) (v : World) (bounds : GenerationBounds) (forced : is_forced j.kind p j.rows j.cols j.tiles count v j.offset bounds ≡ true) where
+  module _ (p : List ℕ) (v : World) (bounds : Option BoundingBox) (forced : is_forced j.kind p j.rows j.cols j.tiles count v j.offset bounds ≡ true) where
     abbrev bare_there : Bool
     bare_there = not (laid_on p (entry_in j v))
 
@@ -159,7 +159,7 @@ module _ (j : Panel) (count : ℕ) where
       → Each (Waits j count s.board.pieces) (e ∷ rest) × Apart (e ∷ rest)
   next-kept s h q = (subst (Each (Waits j count s.board.pieces)) q h.wait, subst Apart q h.apart)
 
-  module _ (bounds : GenerationBounds) (b : Board) (place : World) where
+  module _ (bounds : Option BoundingBox) (b : Board) (place : World) where
     pub keeps : Entered j count b.pieces → (n : ℕ) → Keeps (run_out j count bounds b place n)
     unfolding laid
     keeps enter =

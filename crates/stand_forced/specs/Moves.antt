@@ -7,14 +7,14 @@ use Rattle.base.specs.Refusal.{refusal, unless_refused}
 use Rattle.rules.specs.Grid.{laid_on}
 use Rattle.rules.specs.ForcedRun.{run_out, run_checks, after_run}
 use Rattle.rules.specs.declared.World.{World}
-use Rattle.rules.specs.declared.GenerationBounds.{GenerationBounds}
 use Rattle.rules.specs.declared.ForcedPosition.{ForcedPosition}
 use Rattle.stand.specs.Runs.{State, lay, Act, call, count_in, refusal_in, acted}
+use Rattle.rules.specs.declared.BoundingBox.{BoundingBox}
 
 -- a move: an act, or a forced run with the number of colours that it names, its place, its box and its budget; any of them
 pub data Move : Type 0 where
   act : Act → Move
-  forced : ℕ → World → GenerationBounds → ℕ → Move
+  forced : ℕ → World → Option BoundingBox → ℕ → Move
 
 -- the number that a move is refused with, 0 where it is accepted
 abbrev pub refusal_by : State → Move → ℕ

@@ -2,7 +2,7 @@
 // file `stdout`. Each store starts as 77 everywhere and is printed whole, so what was not written shows.
 #![tactic(auto)]
 
-use rules::{SetAnswer, TileNumber};
+use rules::Refusal;
 use std::io;
 
 fn wide(byte: u8) -> u64 {
@@ -22,13 +22,13 @@ fn print_line(rt: &impl Print, heading: &[u8], bytes: &[u8]) -> io::Result<()> {
 }
 
 // The number of tiles or the refusal, then the store.
-fn print_extraction(rt: &impl Print, answer: TileNumber, store: &[u8]) -> io::Result<()> {
+fn print_extraction(rt: &impl Print, answer: Result<usize, Refusal>, store: &[u8]) -> io::Result<()> {
     match answer {
-        TileNumber::Tiles(n) => {
+        Ok(n) => {
             rt.write_all(b"tiles ")?;
             rt.print(n as u64)?;
         }
-        TileNumber::Refused(n) => {
+        Err(n) => {
             rt.write_all(b"refused ")?;
             rt.print(n as u64)?;
         }
@@ -61,12 +61,12 @@ fn print_sample(
 fn print_members(rt: &impl Print, tile: [u8; 9], count: u32) -> io::Result<()> {
     let answer = tiles::convert_tile_to_membership_booleans(tile, count);
     match answer {
-        SetAnswer::Set(set) => {
+        Ok(set) => {
             let list = bitset::to_vec(set);
             let colours = list.colours;
             print_line(rt, b"members:", &colours)
         }
-        SetAnswer::Refused(n) => {
+        Err(n) => {
             rt.write_all(b"refused ")?;
             rt.print(n as u64)?;
             rt.write_all(b"\n")

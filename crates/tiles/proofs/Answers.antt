@@ -10,11 +10,9 @@ use Rattle.base.proofs.Numbers.{within-high}
 use Rattle.base.proofs.Chain.{all_pass, refusing, not-refused, stop, go, kept-old, has_new}
 use Rattle.rules.specs.Bounds.{max_sample_side}
 use Rattle.rules.specs.Tests.{sample_sides, tiles_in}
-use Rattle.rules.specs.Answers.{tile_answer}
+use Rattle.rules.specs.Answers.{Answer, tile_answer}
 use Rattle.rules.specs.Tiles.{sample_checks, room_check, extraction_checks, extracted, extraction, store_after}
 use Rattle.rules.specs.Promises.{Extracts}
-use Rattle.rules.specs.declared.TileNumber.{TileNumber}
-use Rattle.rules.specs.declared.TileNumber.TheVariants.{Refused}
 use Rattle.rules.proofs.Answered.{tiles-refused}
 use Rattle.check_sizes.proofs.Sides.{long}
 use Rattle.tile_forms.specs.Sample.{Sample}
@@ -49,7 +47,7 @@ module _ (source : List ℕ) (rows cols count : ℕ) where
           leaves = sym (kept-old (refusal (sample_checks source rows cols count)) _ store (λ z. not-refused n t (e ∙ z)));
         }
 
-    pub told-gathered : (a : TileNumber) (x : List ℕ) → 0 ≡ refusal (sample_checks source rows cols count) → Gathers tiles store a x
+    pub told-gathered : (a : Answer ℕ) (x : List ℕ) → 0 ≡ refusal (sample_checks source rows cols count) → Gathers tiles store a x
         → Extracts source rows cols count rotations reflections store a x
     unfolding extraction store_after
     told-gathered a x e w =

@@ -25,7 +25,6 @@ use Rattle.rules.specs.Tiles.{has_tile, with_tile, distinct, store_with, room_ch
 use Rattle.tile_seen.specs.Chains.{buckets, bucket_of, Chained, Notes}
 use Rattle.tile_seen.proofs.Buckets.{chained-none, chained_more}
 use Rattle.tiles.specs.Adding.{Adds, Gathers}
-use Rattle.rules.specs.declared.TileNumber.TheVariants.{Tiles, Refused}
 
 -- ---- the store
 

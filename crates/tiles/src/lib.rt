@@ -4,7 +4,7 @@
 
 ghost use Rattle.std.specs.Prelude.{◌≡◌, ◌+◌, ◌*◌, ◌<◌, ◌≤◌, length, take};
 ghost use Rattle.std.proofs.Math.Seq.{paste};
-ghost use Rattle.base.specs.Refusal.{refusal};
+ghost use Rattle.rules.specs.Answers.{checked};
 ghost use Rattle.rules.specs.Bounds.{max_tiles};
 ghost use Rattle.rules.specs.Promises.{before, after, Extracts};
 ghost use Rattle.rules.specs.Tests.{tiles_in};
@@ -13,7 +13,7 @@ ghost use Rattle.tile_forms.specs.Sample.{Sample};
 ghost use Rattle.tile_seen.specs.Chains.{Chained};
 ghost use Rattle.tiles.specs.Adding.{Adds, Gathers};
 
-use rules::TileNumber;
+use rules::Refusal;
 
 mod membership;
 
@@ -64,7 +64,7 @@ fn gather(
     cols: usize,
     rotations: bool,
     reflections: bool,
-) -> TileNumber
+) -> Result<usize, Refusal>
     requires { Sample source.now rows cols }
     ensures { Gathers (extracted source.now rows cols rotations reflections) (before store) result (after store) }
 {
@@ -78,30 +78,30 @@ fn gather(
         let tile = tile_forms::variant_of(source, rows, cols, rotations, reflections, total - left);
         let kept = add_tile(store, &mut heads, &mut nexts, n, &tile);
         if room < kept {
-            return TileNumber::Refused(rules::ROOM);
+            return Err(Refusal::Room);
         }
         n = kept;
         left -= 1;
     }
-    TileNumber::Tiles(n)
+    Ok(n)
 }
 
-fn sample_refusal(source: &[u8], rows: usize, cols: usize, count: u32) -> u8
-    ensures { result ≡ refusal (sample_checks source.now rows cols count) }
+fn check_sample(source: &[u8], rows: usize, cols: usize, count: u32) -> Result<(), Refusal>
+    ensures { result ≡ checked (sample_checks source.now rows cols count) }
 {
     if !check_sizes::sample_sides(rows, cols) {
-        return rules::SHAPE;
+        return Err(Refusal::Shape);
     }
-    if !check_sizes::bytes_have_length(source, rows * cols) {
-        return rules::LENGTH;
+    if !check_sizes::has_length(source, rows * cols) {
+        return Err(Refusal::Length);
     }
     if !check_sizes::colour_count(count) {
-        return rules::COUNT;
+        return Err(Refusal::Count);
     }
     if !check_contents::no_byte_above(source, count) {
-        return rules::CELL;
+        return Err(Refusal::Cell);
     }
-    0
+    Ok(())
 }
 
 // Every distinct tile, turned and mirrored if asked, nine bytes each; answers their number. ROOM leaves the first tiles that fit whole;
@@ -114,12 +114,9 @@ pub fn extract_tiles(
     rotations: bool,
     reflections: bool,
     store: &mut [u8],
-) -> TileNumber
+) -> Result<usize, Refusal>
     ensures { Extracts source.now rows cols count rotations reflections (before store) result (after store) }
 {
-    let refused = sample_refusal(source, rows, cols, count);
-    if refused != 0 {
-        return TileNumber::Refused(refused);
-    }
+    check_sample(source, rows, cols, count)?;
     gather(store, source, rows, cols, rotations, reflections)
 }

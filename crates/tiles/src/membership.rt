@@ -5,7 +5,7 @@ ghost use Rattle.rules.specs.Tests.{colour_count, none_above};
 ghost use Rattle.rules.specs.Sets.{bits_of};
 ghost use Rattle.rules.specs.Tiles.{membership};
 
-use rules::{SetAnswer, TileBitset};
+use rules::{Refusal, TileBitset};
 
 fn colours_of(tile: [u8; rules::TILE_CELLS], count: u32) -> u32
     requires { (colour_count count ≡ true) × (none_above tile count ≡ true) }
@@ -20,17 +20,17 @@ fn colours_of(tile: [u8; rules::TILE_CELLS], count: u32) -> u32
     bits
 }
 
-pub fn convert_tile_to_membership_booleans(tile: [u8; rules::TILE_CELLS], count: u32) -> SetAnswer
+pub fn convert_tile_to_membership_booleans(tile: [u8; rules::TILE_CELLS], count: u32) -> Result<TileBitset, Refusal>
     ensures { result ≡ membership tile count }
 {
     if !check_sizes::colour_count(count) {
-        return SetAnswer::Refused(rules::COUNT);
+        return Err(Refusal::Count);
     }
     if !check_contents::no_byte_above(&tile, count) {
-        return SetAnswer::Refused(rules::CELL);
+        return Err(Refusal::Cell);
     }
     let bits = colours_of(tile, count);
-    SetAnswer::Set(TileBitset {
+    Ok(TileBitset {
         bits: bits,
         size: count,
     })

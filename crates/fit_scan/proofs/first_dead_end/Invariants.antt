@@ -6,19 +6,19 @@ use mathlib.Core.List.{List}
 use Rattle.base.specs.Counting.{some}
 use Rattle.rules.specs.Grid.{cell_at, entry_of, flat}
 use Rattle.rules.specs.Forced.{dead_at}
-use Rattle.rules.specs.declared.DeadEnd.{DeadEnd}
-use Rattle.rules.specs.declared.DeadEnd.TheVariants.{Nowhere}
 use Rattle.fit_scan.proofs.first_dead_end.Given as goal
+use Rattle.rules.specs.Answers.{Answer}
+use Rattle.rules.specs.declared.Cell.{Cell}
 
 abbrev pub dead : List ℕ → List ℕ → ℕ → ℕ → List ℕ → ℕ → ℕ → Bool
 dead pieces weights rows cols tiles count = dead_at (flat rows cols) tiles pieces weights count
 
-pub record Outer (test : ℕ → Bool) (rows cols : ℕ) (found : DeadEnd) (row : ℕ) : Type 0 where
+pub record Outer (test : ℕ → Bool) (rows cols : ℕ) (found : Answer (Option Cell)) (row : ℕ) : Type 0 where
   pub nowhere : found ≡ Nowhere
   pub row_in : row ≤ rows
   pub passed : some (row * cols) test ≡ false
 
-pub record Inner (test : ℕ → Bool) (rows cols : ℕ) (found : DeadEnd) (row col : ℕ) : Type 0 where
+pub record Inner (test : ℕ → Bool) (rows cols : ℕ) (found : Answer (Option Cell)) (row col : ℕ) : Type 0 where
   pub nowhere : found ≡ Nowhere
   pub row_in : row < rows
   pub col-in : col ≤ cols

@@ -1,7 +1,6 @@
 -- `fit_windows::viable_tiles_at` meets its contract: the set of what `viable_colours` found. Assumes nothing.
 use Prim.Native.Nat.{ℕ}
 use mathlib.Core.Path.{ap}
-use Rattle.rules.specs.declared.Listing.TheVariants.{Colours}
 use Rattle.fit_windows.proofs.viable_tiles_at.Goals as goal
 
 pub returns : goal.returns
