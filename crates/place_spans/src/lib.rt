@@ -39,7 +39,8 @@ pub fn get_region_spans(offset: Offset, place: World, radius: usize) -> Result<S
     ensures { result ≡ region_spans offset place radius }
 {
     check_region(offset, place, radius)?;
-    let rows = span_along(place.0, offset.0, radius);
-    let cols = span_along(place.1, offset.1, radius);
-    SpanAnswer::Spans(rows, cols)
+    Ok(Spans {
+        rows: span_along(place.0, offset.0, radius),
+        cols: span_along(place.1, offset.1, radius),
+    })
 }

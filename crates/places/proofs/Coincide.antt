@@ -5,7 +5,7 @@ use mathlib.Core.Path.{◌≡◌}
 use mathlib.Core.Bool.{Bool}
 use lib.IntN.{ℤ, ◌+ℤ◌}
 use Rattle.base.specs.Whole.{clip, within_z}
-use Rattle.base.specs.Refusal.{refusal}
+use Rattle.rules.specs.Answers.{Answer, checked}
 use Rattle.base.proofs.Chain.{coincide}
 use Rattle.rules.specs.Tests.{on_wall, offset_fits, on_board}
 use Rattle.rules.specs.Places.{cell_of}
@@ -35,6 +35,6 @@ signed-index coordinate offset p q = coincide p q
 pub cell-of : (w : World) (o : Offset) {r s : Cell} → r ≡ cell_of w o → s ≡ cell_of w o → r ≡ s
 cell-of w o p q = coincide p q
 
-pub place-refused : (rows cols : ℕ) (w : World) (o : Offset) {r s : ℕ}
-    → r ≡ refusal (place_checks rows cols w o) → s ≡ refusal (place_checks rows cols w o) → r ≡ s
-place-refused rows cols w o p q = coincide p q
+pub check-place : (rows cols : ℕ) (w : World) (o : Offset) {r s : Answer Unit}
+    → r ≡ checked (place_checks rows cols w o) → s ≡ checked (place_checks rows cols w o) → r ≡ s
+check-place rows cols w o p q = coincide p q

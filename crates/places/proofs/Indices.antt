@@ -9,6 +9,9 @@ use lib.Dec.{T, ltb, lit<}
 use lib.IntN.{ℤ, pos, negsuc, nat_abs, sub_ℕ, ◌+ℤ◌}
 use lib.Signed.{lt_z, mag, non_neg}
 use borrow.Author.Tests.{leb-true, le-leb, le-ltb, ltb-true}
+use Rattle.std.specs.Prelude.{Ok}
+use Rattle.rules.specs.declared.Spans.{Spans}
+use Rattle.rules.specs.declared.Cell.{Cell}
 use Rattle.base.specs.Whole.{clip, within_z, index_below}
 use Rattle.base.specs.Refusal.{refusal}
 use Rattle.base.proofs.Bools.{and_left, and_right, never}
@@ -115,9 +118,13 @@ module _ (rows cols : ℕ) (w : World) (o : Offset) (h : on_board rows cols w o 
   unfolding cell_of
   col-span k = ap (λ (x : ℤ). span_of x k) (index-pos cols (w.1 +ℤ o.1) col-on) ∙ span-round (clip (w.1 +ℤ o.1)) k
 
+-- the spans round a cell
+abbrev pub spans_round : Cell → ℕ → Spans
+spans_round cell k = record { rows = span_round cell.0 k; cols = span_round cell.1 k }
+
 -- so the spans round a place that was not refused are given
 pub spans-given : (rows cols : ℕ) (w : World) (o : Offset) (k : ℕ) → Placed rows cols w o → k ≤ max_radius
-    → region_spans o w k ≡ Spans (span_round (cell_of w o).0 k) (span_round (cell_of w o).1 k)
+    → region_spans o w k ≡ Ok (spans_round (cell_of w o) k)
 unfolding region_spans refusal
 spans-given rows cols w o k p h =
     rw

@@ -10,7 +10,7 @@ use Prim.Native.Nat.{ℕ, zero, suc, pred, ◌≤◌}
 use mathlib.Core.Path.{◌≡◌, refl, sym, ◌∙◌, ap}
 use mathlib.Core.Bool.{Bool, true}
 use native.Mathlib.Omega.{arith}
-use Rattle.std.specs.Prelude.{Ok, Err}
+use Rattle.std.specs.Prelude.{Ok, Err, IsErr, IsErrAnd}
 use Rattle.base.specs.Counting.{every}
 use Rattle.base.specs.Refusal.{Checks, ◌then◌, or_else, refusal, unless_refused, Gives}
 use borrow.Author.Tests.{eqb-true}
@@ -91,6 +91,17 @@ module _ {r : Refusal} (cs : Checks) where
   pub refuses : {A : Type 0} (a : A) → Err r ≡ checked cs → Err r ≡ answered (refusal cs) a
   refuses a e = other-value (refusal cs) tt a e
 
+-- `part(..)?` where the part refused: what is answered is its refusal
+handed : {A : Type 0} (x : Answer A) (r : Refusal) → IsErr x × IsErrAnd x (λ q. q ≡ r) → x ≡ Err r
+handed (Ok a) r h = absurd h.1
+handed (Err q) r h = ap Err h.1
+
+pub handed-on : {A B : Type 0} {x : Answer A} {r : Refusal} (y : B) (f : Answer A → B) → IsErr x × IsErrAnd x (λ q. q ≡ r) → f (Err r) ≡ y → f x ≡ y
+handed-on {x = x} {r = r} y f h e = ap f (handed x r h) ∙ e
+
+pub handed_to : {A : Type 0} {x y : Answer A} {r : Refusal} → IsErr x × IsErrAnd x (λ q. q ≡ r) → Err r ≡ y → x ≡ y
+handed_to {x = x} {r = r} h e = handed x r h ∙ e
+
 -- ---- acceptance
 
 zero-from : {A : Type 0} {x : Answer A} {b : A} (n : ℕ) (a : A) → x ≡ answered n a → x ≡ Ok b → 0 ≡ n
@@ -133,4 +144,4 @@ module _ {A B : Type 0} (cs : Checks) (a : A) (new old : B) where
 pub was-written : {B : Type 0} (cs : Checks) (new old : B) {after : B} → Writes cs new old (Ok tt) after → (refusal cs ≡ 0) × (after ≡ new)
 was-written cs new old w = let d = was-done cs tt new old w in (d.0, d.2)
 
-pub ruleset answers = (by-number, caught, stopped, went-on, refuses, passed, tells, refused, done)
+pub ruleset answers = (handed_to, by-number, caught, stopped, went-on, refuses, passed, tells, refused, done)

@@ -6,7 +6,7 @@ use Rattle.rules.specs.Grid.{entry_of, flat}
 use Rattle.rules.specs.Board.{lifted, board_checks, lifting_checks, after_lift}
 use Rattle.rules.specs.Promises.{board, panel}
 use Rattle.rules.specs.declared.Cell.{Cell}
-use Rattle.rules.proofs.Answered.{answers, lift-refused, lift-done}
+use Rattle.rules.proofs.Answered.{answers}
 use Rattle.check_sizes.proofs.Lengths.{lengths}
 use Rattle.check_sizes.proofs.Tiled.{few-tiles}
 use Rattle.board_near.proofs.Placing.{place-stops, place-passes}
@@ -35,7 +35,7 @@ returns-then-bad-ne0 c = search (chain, answers, lengths, contents-by) depth 20 
 made : (c : Else-bad-ne0)
     → let a = c.args in
     0 ≡ refusal (board_checks (panel a.rows a.cols a.tiles.now a.offset) a.count (board a.pieces.now a.weights.now a.counts.now))
-made c = search (chain, lengths, contents-by) depth 20 fits 5000
+made c = search (chain, answers, lengths, contents-by) depth 20 fits 5000
 
 pub returns-in_default-near_spans : goal.returns-in_default-near_spans
 unfolding after_lift

@@ -5,7 +5,7 @@ use Rattle.base.specs.Refusal.{refusal}
 use Rattle.base.proofs.Chain.{chain}
 use Rattle.rules.specs.Board.{fresh_checks}
 use Rattle.rules.specs.Promises.{board}
-use Rattle.rules.proofs.Answered.{answers, done}
+use Rattle.rules.proofs.Answered.{answers}
 use Rattle.check_sizes.proofs.Sides.{tiles-most}
 use Rattle.board_fresh.proofs.Filled.{filled}
 use Rattle.board_fresh.proofs.fresh.Goals.{Else-not-tile_number_fits}
@@ -20,7 +20,7 @@ returns-then-not-tile_number_fits c = search (chain, answers) depth 20 fits 5000
 -- all checks have passed
 made : (c : Else-not-tile_number_fits)
     → 0 ≡ refusal (fresh_checks c.args.rows c.args.cols c.args.tiles (board c.args.pieces.now c.args.weights.now c.args.counts.now))
-made c = search chain depth 20 fits 5000
+made c = search (chain, answers) depth 20 fits 5000
 
 pub overflow_cast-tiles : goal.overflow_cast-tiles
 overflow_cast-tiles c = omega (arith, tiles-most _ (sym c.tile_number_fits.ensures ∙ c.if-not-tile_number_fits.false))

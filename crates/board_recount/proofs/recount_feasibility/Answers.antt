@@ -3,7 +3,7 @@ use mathlib.Core.Path.{◌≡◌, ◌∙◌}
 use Rattle.base.specs.Refusal.{refusal}
 use Rattle.base.proofs.Chain.{chain}
 use Rattle.rules.specs.Board.{recount_checks}
-use Rattle.rules.proofs.Answered.{answers, done}
+use Rattle.rules.proofs.Answered.{answers}
 use Rattle.board_near.proofs.Placing.{placing, nearby}
 use Rattle.board_recount.proofs.Recounts.{in-spans, recounted-is}
 use Rattle.board_recount.proofs.Leaning.{Planed, planed}
@@ -19,7 +19,7 @@ returns-in_default c = search (chain, answers, placing) depth 20 fits 5000
 -- all checks have passed, and what the recount leans on then
 made : (c : In-Spans)
     → let a = c.args in 0 ≡ refusal (recount_checks a.counts.now a.pieces.now a.rows a.cols a.tiles.now a.count a.place a.offset)
-made c = search (chain, placing) depth 20 fits 5000
+made c = search (chain, answers, placing) depth 20 fits 5000
 
 leans : (c : In-Spans)
     → let a = c.args in Planed a.counts.now a.pieces.now a.rows a.cols a.tiles.now a.place a.offset

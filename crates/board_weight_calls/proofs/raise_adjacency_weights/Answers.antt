@@ -2,7 +2,7 @@
 use mathlib.Core.Path.{◌≡◌, ◌∙◌, ap}
 use Rattle.base.specs.Refusal.{refusal}
 use Rattle.base.proofs.Chain.{chain}
-use Rattle.rules.proofs.Answered.{answers, done}
+use Rattle.rules.proofs.Answered.{answers}
 use Rattle.rules.specs.Grid.{flat, entry_of}
 use Rattle.rules.specs.Board.{raised, weight_checks}
 use Rattle.rules.specs.declared.Cell.{Cell}
@@ -20,7 +20,7 @@ pub raise_near-requires : goal.raise_near-requires
 raise_near-requires c =
     let a = c.args in
     -- all checks have passed
-    let made : 0 ≡ refusal (weight_checks a.weights.now a.rows a.cols a.place a.offset) = search (chain, placing) depth 20 fits 5000 in
+    let made : 0 ≡ refusal (weight_checks a.weights.now a.rows a.cols a.place a.offset) = search (chain, answers, placing) depth 20 fits 5000 in
     let v = weighed _ _ _ _ _ made in
     rw c.cell_of-cell.ensures
     (v.on, nearby _ _ _ _ _ _ _ c.in-Spans.is c.near_spans.ensures, v.light)
@@ -29,7 +29,7 @@ pub returns : goal.returns
 returns c =
     let a = c.args in
     -- all checks have passed
-    let made : 0 ≡ refusal (weight_checks a.weights.now a.rows a.cols a.place a.offset) = search (chain, placing) depth 20 fits 5000 in
+    let made : 0 ≡ refusal (weight_checks a.weights.now a.rows a.cols a.place a.offset) = search (chain, answers, placing) depth 20 fits 5000 in
     done _ _ _ made
     (c.raise_near.ensures
     ∙ ap (λ (x : Cell). raised (flat a.rows a.cols) (entry_of a.cols x) a.weights.now) c.cell_of-cell.ensures)

@@ -2,30 +2,31 @@
 use mathlib.Core.Path.{sym, ◌∙◌}
 use native.Mathlib.Omega.{arith}
 use Rattle.base.proofs.Chain.{chain}
+use Rattle.rules.proofs.Answered.{answers}
 use Rattle.check_sizes.proofs.Sides.{tiles-most}
 use Rattle.check_sizes.proofs.Lengths.{length-as}
 use Rattle.fit.proofs.check_fraction.Goals as goal
 
 pub returns-then-not-board_sides : goal.returns-then-not-board_sides
-returns-then-not-board_sides c = search chain depth 20 fits 5000
+returns-then-not-board_sides c = search (chain, answers) depth 20 fits 5000
 
 pub cells_of-requires : goal.cells_of-requires
 cells_of-requires c = sym c.board_sides.ensures ∙ c.if-not-board_sides.false
 
 pub returns-then-not-words_have_length : goal.returns-then-not-words_have_length
-returns-then-not-words_have_length c = search (chain, length-as) depth 20 fits 5000
+returns-then-not-words_have_length c = search (chain, answers, length-as) depth 20 fits 5000
 
 pub returns-then-not-tile_number_fits : goal.returns-then-not-tile_number_fits
-returns-then-not-tile_number_fits c = search (chain, length-as) depth 20 fits 5000
+returns-then-not-tile_number_fits c = search (chain, answers, length-as) depth 20 fits 5000
 
 pub overflow_cast-tiles : goal.overflow_cast-tiles
 overflow_cast-tiles c = record { fits = omega (arith, tiles-most _ (sym c.tile_number_fits.ensures ∙ c.if-not-tile_number_fits.false)) }
 
 pub returns-then-not-no_word_above : goal.returns-then-not-no_word_above
-returns-then-not-no_word_above c = search (chain, length-as) depth 20 fits 5000
+returns-then-not-no_word_above c = search (chain, answers, length-as) depth 20 fits 5000
 
 pub returns-then-not-on_grid : goal.returns-then-not-on_grid
-returns-then-not-on_grid c = search (chain, length-as) depth 20 fits 5000
+returns-then-not-on_grid c = search (chain, answers, length-as) depth 20 fits 5000
 
 pub returns : goal.returns
-returns c = search (chain, length-as) depth 20 fits 5000
+returns c = search (chain, answers, length-as) depth 20 fits 5000

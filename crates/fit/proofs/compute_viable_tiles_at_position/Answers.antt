@@ -3,7 +3,7 @@
 use mathlib.Core.Path.{refl, sym, ◌∙◌}
 use Rattle.base.proofs.Chain.{chain}
 use Rattle.rules.specs.Fit.{listing}
-use Rattle.rules.proofs.Answered.{answers, listing-told}
+use Rattle.rules.proofs.Answered.{answers}
 use Rattle.fit_windows.proofs.Accepted.{accepted-ready}
 use Rattle.fit.proofs.Accepted.{place-on}
 use Rattle.fit.proofs.compute_viable_tiles_at_position.Goals as goal
@@ -26,4 +26,4 @@ viable_tiles_at-requires c =
 
 pub returns : goal.returns
 unfolding listing
-returns c = rw (c.viable_tiles_at.ensures, c.cell_of.ensures) (listing-told _ (search chain depth 20 fits 5000) refl)
+returns c = rw (c.viable_tiles_at.ensures, c.cell_of.ensures) (listing-told _ (search (chain, answers) depth 20 fits 5000) refl)

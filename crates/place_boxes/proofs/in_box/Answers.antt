@@ -8,7 +8,7 @@ use mir.Syntax.{w32}
 use mir.Val.{to_z, of_z}
 use native.Mathlib.Omega.{arith}
 use Rattle.base.specs.Whole.{within_z}
-use Rattle.base.proofs.Bools.{and-go, and-stop}
+use Rattle.base.proofs.Bools.{and-go, and-halt}
 use Rattle.places.proofs.Wide.{same}
 use Rattle.place_boxes.proofs.Boxes.{box-sides}
 use Rattle.place_boxes.proofs.in_box.Goals as goal
@@ -31,4 +31,4 @@ pub returns-else-in_range : goal.returns-else-in_range
 returns-else-in_range c =
     let b = c.args.bounds in
     let w = c.args.place in
-    and-stop _ _ (sym (c.in_range.ensures ∙ within-same b.min.0 b.max.0 w.0 (omega arith) (omega arith) (omega arith)) ∙ c.if-in_range.false) ∙ box-sides b w
+    and-halt _ _ (c.in_range.ensures ∙ within-same b.min.0 b.max.0 w.0 (omega arith) (omega arith) (omega arith)) c.if-in_range.false ∙ box-sides b w

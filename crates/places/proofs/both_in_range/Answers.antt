@@ -2,7 +2,7 @@
 -- Assumes nothing.
 use mathlib.Core.Path.{sym, ◌∙◌}
 use mir.Facts.{to_z-of_z}
-use Rattle.base.proofs.Bools.{and-go, and-stop}
+use Rattle.base.proofs.Bools.{and-go, and-halt}
 use Rattle.places.proofs.both_in_range.Goals as goal
 
 pub returns-then-in_range : goal.returns-then-in_range
@@ -15,4 +15,4 @@ returns-then-in_range c =
 pub returns-else-in_range : goal.returns-else-in_range
 returns-else-in_range c =
     let f = c.before.before.ranges in
-    and-stop _ _ (sym (rw (to_z-of_z f.least, to_z-of_z f.most, to_z-of_z f.x) at c.before.in_range.ensures) ∙ c.if-in_range.false)
+    and-halt _ _ (rw (to_z-of_z f.least, to_z-of_z f.most, to_z-of_z f.x) at c.before.in_range.ensures) c.if-in_range.false

@@ -1,16 +1,17 @@
 -- `places::check_place` meets its contract: each exit answers the first check that fails.
 -- Assumes nothing.
 use Rattle.base.proofs.Chain.{chain}
+use Rattle.rules.proofs.Answered.{answers}
 use Rattle.places.proofs.check_place.Goals as goal
 
 pub returns-then-not-on_wall : goal.returns-then-not-on_wall
-returns-then-not-on_wall c = search chain depth 20 fits 5000
+returns-then-not-on_wall c = search (chain, answers) depth 20 fits 5000
 
 pub returns-then-not-offset_fits : goal.returns-then-not-offset_fits
-returns-then-not-offset_fits c = search chain depth 20 fits 5000
+returns-then-not-offset_fits c = search (chain, answers) depth 20 fits 5000
 
 pub returns-then-not-on_board : goal.returns-then-not-on_board
-returns-then-not-on_board c = search chain depth 20 fits 5000
+returns-then-not-on_board c = search (chain, answers) depth 20 fits 5000
 
 pub returns : goal.returns
-returns c = search chain depth 20 fits 5000
+returns c = search (chain, answers) depth 20 fits 5000

@@ -16,4 +16,4 @@ unfolding within_z
 returns-else-least-z c =
     let f = c.before.ranges in
     let t = rw (to_z-of_z f.least, to_z-of_z f.z) at c.if-least-z.false in
-    rw t
+    rw (to_z-of_z f.least, to_z-of_z f.z, t)

@@ -5,7 +5,7 @@ use native.Mathlib.Omega.{arith}
 use lib.IntN.{◌+ℤ◌}
 use Rattle.base.specs.Whole.{index_below}
 use Rattle.rules.specs.Tests.{on_board}
-use Rattle.base.proofs.Bools.{and-go, and-stop}
+use Rattle.base.proofs.Bools.{and-go, and-halt}
 use Rattle.places.proofs.Wide.{same-two}
 use Rattle.places.proofs.on_board.Goals as goal
 
@@ -21,5 +21,4 @@ pub returns-else-on_side : goal.returns-else-on_side
 unfolding on_board
 returns-else-on_side c =
     let a = c.args in
-    and-stop _ _
-    (sym (c.on_side.ensures ∙ same-two (λ x y. index_below a.rows (x +ℤ y)) a.place.0 a.offset.0 (omega arith) (omega arith)) ∙ c.if-on_side.false)
+    and-halt _ _ (c.on_side.ensures ∙ same-two (λ x y. index_below a.rows (x +ℤ y)) a.place.0 a.offset.0 (omega arith) (omega arith)) c.if-on_side.false

@@ -3,6 +3,7 @@ use Prim.Native.Nat.{ℕ, ◌*◌, ◌^◌, ◌≤◌}
 use mathlib.Core.Path.{◌≡◌, sym, ◌∙◌}
 use mathlib.Core.Bool.{Bool, true, ◌&&◌}
 use Rattle.base.proofs.Chain.{chain}
+use Rattle.rules.proofs.Answered.{answers}
 use Rattle.check_sizes.proofs.Sides.{few-cells}
 use Rattle.base.proofs.Numbers.{mul-le, within-high}
 use native.Mathlib.Omega.{arith}
@@ -13,13 +14,13 @@ use Rattle.rules.specs.Tests.{board_sides}
 use Rattle.probability_checks.proofs.check_influence.Goals as goal
 
 pub returns-then-not-board_sides : goal.returns-then-not-board_sides
-returns-then-not-board_sides c = search chain depth 20 fits 5000
+returns-then-not-board_sides c = search (chain, answers) depth 20 fits 5000
 
 pub returns-then-not-influence_sides : goal.returns-then-not-influence_sides
-returns-then-not-influence_sides c = search chain depth 20 fits 5000
+returns-then-not-influence_sides c = search (chain, answers) depth 20 fits 5000
 
 pub returns-then-radius-gt-MAX_RADIUS : goal.returns-then-radius-gt-MAX_RADIUS
-returns-then-radius-gt-MAX_RADIUS c = search chain depth 20 fits 5000
+returns-then-radius-gt-MAX_RADIUS c = search (chain, answers) depth 20 fits 5000
 
 -- the board has few cells, the block few entries, and there are few colours
 cells : (rows cols : ℕ) {r : Bool} → r ≡ board_sides rows cols → r ≡ true → rows * cols ≤ 4096
@@ -43,7 +44,7 @@ overflow_mul-count c =
     record { fits = omega (arith, mul-le n (cells c.args.rows c.args.cols c.board_sides.ensures c.if-not-board_sides.false)) }
 
 pub returns-then-not-floats_have_length : goal.returns-then-not-floats_have_length
-returns-then-not-floats_have_length c = search chain depth 20 fits 5000
+returns-then-not-floats_have_length c = search (chain, answers) depth 20 fits 5000
 
 pub overflow_mul-brows : goal.overflow_mul-brows
 overflow_mul-brows c =
@@ -55,10 +56,10 @@ overflow_mul-count-2 c =
     record { fits = omega (arith, mul-le n (entries c.args.brows c.args.bcols c.influence_sides.ensures c.if-not-influence_sides.false)) }
 
 pub returns-then-not-floats_have_length-2 : goal.returns-then-not-floats_have_length-2
-returns-then-not-floats_have_length-2 c = search chain depth 20 fits 5000
+returns-then-not-floats_have_length-2 c = search (chain, answers) depth 20 fits 5000
 
 pub returns-then-not-colour_count : goal.returns-then-not-colour_count
-returns-then-not-colour_count c = search chain depth 20 fits 5000
+returns-then-not-colour_count c = search (chain, answers) depth 20 fits 5000
 
 pub returns : goal.returns
-returns c = search chain depth 20 fits 5000
+returns c = search (chain, answers) depth 20 fits 5000

@@ -3,7 +3,7 @@
 use mathlib.Core.Path.{sym, ◌∙◌, ap}
 use native.Mathlib.Omega.{arith}
 use Rattle.listing_job.specs.Form.{is_formed, tail_fits}
-use Rattle.base.proofs.Bools.{and-go, and-stop}
+use Rattle.base.proofs.Bools.{and-go, and-halt}
 use Rattle.listing_job.proofs.Forming.{few-cells}
 use Rattle.listing_job.proofs.job.is_formed.Goals as goal
 
@@ -19,4 +19,4 @@ returns-then-head_fits c = and-go _ _ (sym c.head_fits.ensures ∙ c.if-head_fit
 
 pub returns-else-head_fits : goal.returns-else-head_fits
 unfolding is_formed
-returns-else-head_fits c = and-stop _ _ (sym c.head_fits.ensures ∙ c.if-head_fits.false)
+returns-else-head_fits c = and-halt _ _ c.head_fits.ensures c.if-head_fits.false

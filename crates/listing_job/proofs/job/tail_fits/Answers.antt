@@ -15,4 +15,4 @@ returns-else-sides_up_to c = and-go _ _ (le-leb _ _ c.if-cells-numbers.true) (an
 
 pub returns-else-cells-numbers : goal.returns-else-cells-numbers
 unfolding tail_fits
-returns-else-cells-numbers c = and-stop _ _ (lt-leb _ _ c.if-cells-numbers.false)
+returns-else-cells-numbers c = and-halt _ _ refl (lt-leb _ _ c.if-cells-numbers.false)

@@ -1,19 +1,20 @@
 -- `queue::refusals::of_adding` meets its contract, by the laws of a chain of checks.
 -- Assumes nothing.
 use Rattle.base.proofs.Chain.{chain}
+use Rattle.rules.proofs.Answered.{answers}
 use Rattle.queue.proofs.refusals.of_adding.Goals as goal
 
 pub returns-then-queue-gt-QUEUE_ROOM : goal.returns-then-queue-gt-QUEUE_ROOM
-returns-then-queue-gt-QUEUE_ROOM c = search chain depth 20 fits 5000
+returns-then-queue-gt-QUEUE_ROOM c = search (chain, answers) depth 20 fits 5000
 
 pub returns-then-positions-gt-ADDED_ROOM : goal.returns-then-positions-gt-ADDED_ROOM
-returns-then-positions-gt-ADDED_ROOM c = search chain depth 20 fits 5000
+returns-then-positions-gt-ADDED_ROOM c = search (chain, answers) depth 20 fits 5000
 
 pub returns-then-not-queued_on_wall : goal.returns-then-not-queued_on_wall
-returns-then-not-queued_on_wall c = search chain depth 20 fits 5000
+returns-then-not-queued_on_wall c = search (chain, answers) depth 20 fits 5000
 
 pub returns-then-not-offered_on_wall : goal.returns-then-not-offered_on_wall
-returns-then-not-offered_on_wall c = search chain depth 20 fits 5000
+returns-then-not-offered_on_wall c = search (chain, answers) depth 20 fits 5000
 
 pub returns : goal.returns
-returns c = search chain depth 20 fits 5000
+returns c = search (chain, answers) depth 20 fits 5000
