@@ -49,5 +49,5 @@ pub only-colour-coincides : {x y : ℕ} (bits : ℕ) → ((n : ℕ) → bits < 2
     → ((n : ℕ) → bits < 2 ^ n → y ≡ only (colours_of n (has bits))) → x ≡ y
 only-colour-coincides bits = each-coincides bits _
 
-pub members-coincides : {x y : ColourList} (bits size : ℕ) → x ≡ colour_list 0 (colours_of size (has bits)) → y ≡ colour_list 0 (colours_of size (has bits)) → x ≡ y
+pub members-coincides : {x y : ColourList} (bits size : ℕ) → x ≡ colour_list (colours_of size (has bits)) → y ≡ colour_list (colours_of size (has bits)) → x ≡ y
 members-coincides bits size = coincide

@@ -153,8 +153,8 @@ one_only n f =
     (λ t. let u = tally-one n f (sym (colours-tally n f) ∙ eqb-true (length (colours_of n f)) 1 t) in t ∙ rw u.3 (sym (ap not (ne_eqb (u.0 + 1) 0 (λ q. omega arith)))))
     (λ t. t ∙ sym (ap not (eq-eqb (only (colours_of n f)) 0 (sym (only_none (colours_of n f) (λ e. never (eqb (length (colours_of n f)) 1) (eq-eqb (length (colours_of n f)) 1 e) t))))))
 
-abbrev pub list_of : ℕ → List ℕ → ℕ → ColourList
-list_of n colours len = record { refused = n; colours = colours; len = len }
+abbrev pub list_of : List ℕ → ℕ → ColourList
+list_of colours len = record { colours = colours; len = len }
 
 -- the loop that lists: the colours so far, and 0 in the entries past them
 pub record Filled (room k : ℕ) (f : ℕ → Bool) (colours : List ℕ) (len : ℕ) : Type 0 where
@@ -198,8 +198,8 @@ filled-turn room k d f colours len inv l b e = go d b e
     go (suc (suc d)) b e = absurd (omega arith)
 
 pub filled-all : (k size : ℕ) (f : ℕ → Bool) (colours : List ℕ) (len : ℕ) → Filled max_colours k f colours len → k ≡ size
-    → list_of 0 colours len ≡ colour_list 0 (colours_of size f)
-filled-all k size f colours len inv e = ap₂ (list_of 0) inv.filled inv.long ∙ ap (λ (m : ℕ). colour_list 0 (colours_of m f)) e
+    → list_of colours len ≡ colour_list (colours_of size f)
+filled-all k size f colours len inv e = ap₂ list_of inv.filled inv.long ∙ ap (λ (m : ℕ). colour_list (colours_of m f)) e
 
 -- a colour times its digit is no more than the colour
 pub digit-le : (d t : ℕ) → d < 2 → d * t ≤ t

@@ -44,10 +44,7 @@ pub fn has_colour(bits: u32, t: u32) -> bool
     requires { t ≤ max_colours }
     ensures { result ≡ has bits t }
 {
-    if t == 0 {
-        return false;
-    }
-    (bits >> (t - 1)) % 2 == 1
+    t != 0 && (bits >> (t - 1)) % 2 == 1
 }
 
 pub fn no_colour(bits: u32) -> bool
@@ -59,36 +56,30 @@ pub fn no_colour(bits: u32) -> bool
 pub fn colours_in(bits: u32) -> u32
     ensures { (n : ℕ) → bits < 2 ^ n → result ≡ length (colours_of n (has bits)) }
 {
-    u32::count_ones(bits)
+    bits.count_ones()
 }
 
 // The one colour of the set; 0 where it has none or more than one.
 pub fn only_colour(bits: u32) -> u32
     ensures { (n : ℕ) → bits < 2 ^ n → result ≡ only (colours_of n (has bits)) }
 {
-    if u32::count_ones(bits) != 1 {
+    if bits.count_ones() != 1 {
         return 0;
     }
-    u32::trailing_zeros(bits) + 1
+    bits.trailing_zeros() + 1
 }
 
 // The members ascending. An entry is written also for a colour that is not in: it gets 0, which it holds already, so no branch is needed.
 pub fn members(bits: u32, size: u32) -> ColourList
     requires { size ≤ max_colours }
-    ensures { result ≡ colour_list 0 (colours_of size (has bits)) }
+    ensures { result ≡ colour_list (colours_of size (has bits)) }
 {
     let mut colours = [0u8; rules::MAX_COLOURS as usize];
     let mut len: usize = 0;
-    let mut k: u32 = 0;
-    while k < size {
+    for k in 0..size {
         let here = (bits >> k) % 2;
         colours[len] = (here * (k + 1)) as u8;
         len += here as usize;
-        k += 1;
     }
-    ColourList {
-        refused: 0,
-        colours: colours,
-        len: len,
-    }
+    ColourList { colours, len }
 }

@@ -7,7 +7,7 @@ use Rattle.bitset_colours.proofs.Colours.{filled_none, filled-turn, filled-all, 
 use Rattle.bitset_colours.proofs.members.Goals as goal
 
 pub loop-k-init : goal.loop-k-init
-loop-k-init c = (filled_none 30 (has c.args.bits), omega arith)
+loop-k-init c = filled_none 30 (has c.args.bits)
 
 pub overflow_shr-here : goal.overflow_shr-here
 overflow_shr-here c = omega arith
@@ -19,16 +19,16 @@ pub overflow_cast-colours : goal.overflow_cast-colours
 overflow_cast-colours c = record { fits = omega (arith, digit-le (c.before.before.args.bits / 2 ^ c.before.loop-k.k % 2) (c.before.loop-k.k + 1) (odd-lt _)) }
 
 pub bounds-colours-len : goal.bounds-colours-len
-bounds-colours-len c = omega (arith, c.before.loop-k.invariant.0.few)
+bounds-colours-len c = omega (arith, c.before.loop-k.invariant.few)
 
 pub overflow_cast-len : goal.overflow_cast-len
 overflow_cast-len c = record { fits = omega (arith, odd-lt (c.before.before.args.bits / 2 ^ c.before.loop-k.k)) }
 
 pub overflow_add-len : goal.overflow_add-len
-overflow_add-len c = record { fits = omega (arith, c.before.loop-k.invariant.0.few, odd-lt (c.before.before.args.bits / 2 ^ c.before.loop-k.k)) }
+overflow_add-len c = record { fits = omega (arith, c.before.loop-k.invariant.few, odd-lt (c.before.before.args.bits / 2 ^ c.before.loop-k.k)) }
 
 pub loop-k-preserved : goal.loop-k-preserved
-loop-k-preserved c = (filled-turn 30 _ _ _ _ _ c.before.loop-k.invariant.0 (omega arith) (odd-lt _) (has-next _ _), omega arith)
+loop-k-preserved c = filled-turn 30 _ _ _ _ _ c.before.loop-k.invariant (omega arith) (odd-lt _) (has-next _ _)
 
 pub returns : goal.returns
-returns c = filled-all _ _ _ _ _ c.before.loop-k.invariant.0 (omega arith)
+returns c = filled-all _ _ _ _ _ c.before.loop-k.invariant (omega arith)

@@ -1,11 +1,7 @@
 -- `bitset_colours::members` meets its contract: the loop fills the list colour by colour. Assumes nothing.
-use Prim.Native.Nat.{◌-◌, ◌≤◌}
 use Rattle.rules.specs.Sets.{has}
 use Rattle.bitset_colours.proofs.Colours.{Filled}
 use Rattle.bitset_colours.proofs.members.Given as goal
 
 abbrev pub invariant-loop-k : goal.invariant-loop-k
-invariant-loop-k l = Filled 30 l.k (has l.bits) l.colours l.len × (l.k ≤ l.size)
-
-abbrev pub decreases-loop-k : goal.decreases-loop-k
-decreases-loop-k l = l.size - l.k
+invariant-loop-k l = Filled 30 l.k (has l.bits) l.colours l.len
