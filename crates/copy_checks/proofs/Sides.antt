@@ -4,10 +4,10 @@ use Prim.Native.Nat.{ℕ, ◌*◌, ◌<◌, ◌≤◌}
 use mathlib.Core.Path.{◌≡◌, refl, sym, ◌∙◌}
 use mathlib.Core.Bool.{true, false}
 use lib.Dec.{leb, eqb}
-use borrow.Author.Tests.{lt-leb, le-leb, eqb-true, eq-eqb, ne_eqb}
+use borrow.Author.Tests.{lt-leb, le-leb, leb-true, eqb-true, eq-eqb, ne_eqb}
 use Rattle.base.specs.Counting.{within}
 use Rattle.base.specs.Refusal.{refusal}
-use Rattle.base.proofs.Bools.{and-no-right, and-go, and-stop}
+use Rattle.base.proofs.Bools.{and-go, and-stop, same_test}
 use Rattle.base.proofs.Chain.{all_pass}
 use Rattle.rules.specs.Places.{new_rows, new_cols}
 use Rattle.rules.specs.declared.Pads.{Pads}
@@ -15,10 +15,6 @@ use Rattle.copy_checks.specs.Laid.{size_checks, Sized}
 
 -- what the comparisons of a number with a range leave
 module _ (lo hi n : ℕ) where
-  pub not_within : hi < n → false ≡ within lo hi n
-  unfolding within
-  not_within h = sym (and-no-right (leb lo n) (leb n hi) (lt-leb n hi h))
-
   pub below-within : n < lo → false ≡ within lo hi n
   unfolding within
   below-within h = and-stop (leb lo n) (leb n hi) (lt-leb lo n h)
@@ -26,6 +22,11 @@ module _ (lo hi n : ℕ) where
   pub is_within : lo ≤ n → leb n hi ≡ within lo hi n
   unfolding within
   is_within h = and-go (leb lo n) (leb n hi) (le-leb lo n h) refl
+
+-- two numbers that are both up to a bound, or both past it
+pub up-to : {a b : ℕ} (hi : ℕ) → (a ≤ hi → b ≤ hi) → (b ≤ hi → a ≤ hi) → leb a hi ≡ leb b hi
+up-to {a} {b} hi f g =
+    same_test (leb a hi) (leb b hi) (λ t. le-leb b hi (f (leb-true a hi t))) (λ t. le-leb a hi (g (leb-true b hi t)))
 
 -- what the comparison of a length with a number of cells leaves, which a function worked out
 pub other_length : {held m : ℕ} (n : ℕ) → (held ≡ m → ⊥) → m ≡ n → eqb held n ≡ false

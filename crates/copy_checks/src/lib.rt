@@ -11,20 +11,11 @@ ghost use Rattle.copy_checks.specs.Laid.{size_checks};
 
 use rules::{Pads, Refusal};
 
-// The side that two pads make is a board side. Pads are any numbers: their sum is taken only where each is small.
+// The side that two pads make is a board side. Pads are any numbers: a sum past the largest stays there, which is no board side either.
 fn side_fits(before: usize, side: usize, after: usize) -> bool
     ensures { result ≡ within 1 max_board_side ((before + side) + after) }
 {
-    if before > rules::MAX_BOARD_SIDE {
-        return false;
-    }
-    if side > rules::MAX_BOARD_SIDE {
-        return false;
-    }
-    if after > rules::MAX_BOARD_SIDE {
-        return false;
-    }
-    let sum = before + side + after;
+    let sum = before.saturating_add(side).saturating_add(after);
     1 <= sum && sum <= rules::MAX_BOARD_SIDE
 }
 
@@ -43,7 +34,13 @@ pub fn larger_cells(rows: usize, cols: usize, pads: Pads) -> usize
 }
 
 // The checks of both calls, on a plane of `held` cells and a target with room for `room`.
-pub fn check_copy(rows: usize, cols: usize, pads: Pads, held: usize, room: usize) -> Result<(), Refusal>
+pub fn check_copy(
+    rows: usize,
+    cols: usize,
+    pads: Pads,
+    held: usize,
+    room: usize,
+) -> Result<(), Refusal>
     ensures { result ≡ checked (size_checks rows cols pads held room) }
 {
     if !check_sizes::board_sides(rows, cols) {

@@ -10,18 +10,14 @@ use rules::{BoundingBox, Refusal, World};
 pub fn in_box(bounds: BoundingBox, place: World) -> bool
     ensures { result ≡ in_box bounds place }
 {
-    let min = bounds.min;
-    let max = bounds.max;
-    in_range(min.0, max.0, place.0) && in_range(min.1, max.1, place.1)
+    in_range(bounds.min.0, bounds.max.0, place.0) && in_range(bounds.min.1, bounds.max.1, place.1)
 }
 
 // Both corners lie on the wall; that min is not above max is not asked.
 pub fn box_fits(bounds: BoundingBox) -> bool
     ensures { result ≡ box_fits bounds }
 {
-    let min = bounds.min;
-    let max = bounds.max;
-    on_wall(min) && on_wall(max)
+    on_wall(bounds.min) && on_wall(bounds.max)
 }
 
 pub fn contains(bounds: BoundingBox, place: World) -> Result<bool, Refusal>
