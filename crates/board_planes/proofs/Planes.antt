@@ -1,22 +1,28 @@
 -- The checks of three planes in the words of a function that has asked for a number first: laws for `search`, beside `chain`.
+--     then-part      a part that stands last, and whose answer is the function's
 --     planes-as      the lengths, by the number of cells
 --     contents-by    the contents, by the number of tiles that `tile_number` answers
 -- Assumes nothing.
 use Prim.Native.Nat.{ℕ}
-use mathlib.Core.Path.{◌≡◌, ◌∙◌, ap}
+use mathlib.Core.Path.{◌≡◌, refl, ◌∙◌, ap}
 use mathlib.Core.List.{List}
-use Rattle.base.specs.Refusal.{refusal}
+use Rattle.std.specs.Prelude.{Ok}
+use Rattle.base.specs.Refusal.{Checks, ◌then◌, refusal}
+use Rattle.base.proofs.Chain.{go}
 use Rattle.rules.specs.Tests.{tiles_in}
 use Rattle.rules.specs.Tiles.{tiles_counted}
 use Rattle.rules.specs.Board.{Board, plane_lengths, board_contents}
 use Rattle.rules.specs.Promises.{board}
 use Rattle.check_sizes.proofs.Tiled.{so-many}
-use Rattle.rules.specs.Answers.{Answer}
+use Rattle.rules.specs.Answers.{Answer, answered, checked}
 
-pub planes-as : {r : ℕ} (pieces weights counts : List ℕ) (m n : ℕ) → r ≡ refusal (plane_lengths m (board pieces weights counts)) → m ≡ n
-    → r ≡ refusal (plane_lengths n (board pieces weights counts))
-planes-as pieces weights counts m n e q = e ∙ ap (λ (k : ℕ). refusal (plane_lengths k (board pieces weights counts))) q
+pub then-part : {x : Answer Unit} (cs ds : Checks) → 0 ≡ refusal cs → x ≡ checked ds → x ≡ checked (cs then ds)
+then-part cs ds z e = e ∙ ap (λ (n : ℕ). answered n tt) (go (refusal ds) cs ds z refl)
 
-pub contents-by : (tiles : List ℕ) (count : ℕ) (b : Board) (a : Answer ℕ) (x : ℕ) → a ≡ Tiles x → a ≡ tiles_counted tiles
-    → (m : ℕ) → m ≡ refusal (board_contents tiles count b x) → m ≡ refusal (board_contents tiles count b (tiles_in tiles))
-contents-by tiles count b a x y t m e = e ∙ ap (λ (n : ℕ). refusal (board_contents tiles count b n)) (so-many tiles a t x y)
+pub planes-as : {x : Answer Unit} (pieces weights counts : List ℕ) (m n : ℕ) → x ≡ checked (plane_lengths m (board pieces weights counts)) → m ≡ n
+    → x ≡ checked (plane_lengths n (board pieces weights counts))
+planes-as pieces weights counts m n e q = e ∙ ap (λ (k : ℕ). checked (plane_lengths k (board pieces weights counts))) q
+
+pub contents-by : (tiles : List ℕ) (count : ℕ) (b : Board) {a : Answer ℕ} (x : ℕ) → a ≡ Ok x → a ≡ tiles_counted tiles
+    → {y : Answer Unit} → y ≡ checked (board_contents tiles count b x) → y ≡ checked (board_contents tiles count b (tiles_in tiles))
+contents-by tiles count b {a} x t e p = p ∙ ap (λ (n : ℕ). checked (board_contents tiles count b n)) (so-many tiles a e x t)

@@ -14,7 +14,12 @@ use check_sizes::{board_sides, cells_of, has_length};
 use rules::{Cell, Refusal};
 
 // LENGTH of the three planes of a board of so many cells.
-pub fn check_planes(pieces: &[u32], weights: &[u32], counts: &[u32], cells: usize) -> Result<(), Refusal>
+pub fn check_planes(
+    pieces: &[u32],
+    weights: &[u32],
+    counts: &[u32],
+    cells: usize,
+) -> Result<(), Refusal>
     ensures { result ≡ checked (plane_lengths cells (board pieces.now weights.now counts.now)) }
 {
     if !has_length(pieces, cells) {
@@ -68,7 +73,13 @@ pub fn check_cells(
 }
 
 // TYPE and TAKEN of a lay on a cell of the board.
-pub fn check_laying(pieces: &[u32], cols: usize, cell: Cell, count: u32, colour: u32) -> Result<(), Refusal>
+pub fn check_laying(
+    pieces: &[u32],
+    cols: usize,
+    cell: Cell,
+    count: u32,
+    colour: u32,
+) -> Result<(), Refusal>
     requires { (entry_of cols cell < length pieces.now) × (length pieces.now ≤ max_cells) }
     ensures { result ≡ checked (laying_checks pieces.now (entry_of cols cell) count colour) }
 {
@@ -91,18 +102,14 @@ pub fn check_lifting(pieces: &[u32], cols: usize, cell: Cell) -> Result<(), Refu
     ensures { result ≡ checked (lifting_checks pieces.now (entry_of cols cell)) }
 {
     let k = cell.0 * cols + cell.1;
-    if rules::BARE_PIECE < pieces[k] {
-        return 0;
+    if pieces[k] <= rules::BARE_PIECE {
+        return Err(Refusal::Bare);
     }
-    Err(Refusal::Bare)
+    Ok(())
 }
 
 pub fn fill(plane: &mut [u32], value: u32)
     ensures { after plane ≡ tab (length (before plane)) (λ k. value) }
 {
-    let mut k = 0;
-    while k < plane.len() {
-        plane[k] = value;
-        k += 1;
-    }
+    plane.fill(value);
 }

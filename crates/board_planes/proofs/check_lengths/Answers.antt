@@ -2,7 +2,7 @@
 use mathlib.Core.Path.{sym, ◌∙◌}
 use Rattle.base.proofs.Chain.{chain}
 use Rattle.rules.proofs.Answered.{answers}
-use Rattle.board_planes.proofs.Planes.{planes-as}
+use Rattle.board_planes.proofs.Planes.{then-part, planes-as}
 use Rattle.board_planes.proofs.check_lengths.Goals as goal
 
 pub returns-then-not-board_sides : goal.returns-then-not-board_sides
@@ -12,4 +12,4 @@ pub cells_of-requires : goal.cells_of-requires
 cells_of-requires c = sym c.board_sides.ensures ∙ c.if-not-board_sides.false
 
 pub returns : goal.returns
-returns c = search (chain, answers, planes-as) depth 20 fits 5000
+returns c = search (chain, answers, then-part, planes-as) depth 20 fits 5000
