@@ -12,6 +12,7 @@ ghost use Rattle.probability_normal.specs.Fits.{PlaceFits};
 
 use rules::{Offset, World};
 
+// Written out: where one of the two is a NaN, f64::max may tell another.
 fn larger(a: f64, b: f64) -> f64
     ensures { result ≡ larger a b }
 {
@@ -23,10 +24,8 @@ fn largest(ps: &[f64]) -> f64
     ensures { result ≡ largest_of ps.now }
 {
     let mut most = 0.0;
-    let mut k = 0;
-    while k < ps.len() {
-        most = larger(most, ps[k]);
-        k += 1;
+    for p in ps {
+        most = larger(most, *p);
     }
     most
 }
@@ -36,10 +35,8 @@ fn total(ps: &[f64], most: f64) -> f64
     ensures { result ≡ total_of most ps.now }
 {
     let mut sum = 0.0;
-    let mut k = 0;
-    while k < ps.len() {
-        sum = sum + ps[k] / most;
-        k += 1;
+    for p in ps {
+        sum += *p / most;
     }
     sum
 }
@@ -48,21 +45,15 @@ fn total(ps: &[f64], most: f64) -> f64
 fn share_out(ps: &mut [f64], most: f64, sum: f64)
     ensures { after ps ≡ map (λ (p : Float). over (over p most) sum) (before ps) }
 {
-    let mut k = 0;
-    while k < ps.len() {
-        ps[k] = ps[k] / most / sum;
-        k += 1;
+    for p in ps.iter_mut() {
+        *p = *p / most / sum;
     }
 }
 
 pub fn fill(ps: &mut [f64], x: f64)
     ensures { after ps ≡ map (λ (_ : Float). x) (before ps) }
 {
-    let mut k = 0;
-    while k < ps.len() {
-        ps[k] = x;
-        k += 1;
-    }
+    ps.fill(x);
 }
 
 // Neither 0 nor infinite.
@@ -91,10 +82,8 @@ pub fn gather(plane: &[f64], cells: usize, at: usize, out: &mut [f64])
     requires { (at < cells) × (length plane.now ≡ length out.old * cells) }
     ensures { after out ≡ tab (length (before out)) (λ t. get_or plane.now (t * cells + at) nan) }
 {
-    let mut t = 0;
-    while t < out.len() {
-        out[t] = plane[t * cells + at];
-        t += 1;
+    for (t, p) in out.iter_mut().enumerate() {
+        *p = plane[t * cells + at];
     }
 }
 

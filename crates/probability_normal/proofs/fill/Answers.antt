@@ -1,17 +1,7 @@
--- `probability_normal::fill` meets its contract: a sweep. Assumes nothing.
-use mathlib.Core.Path.{refl, ◌∙◌}
-use lib.Ieee.{Float, nan}
-use Rattle.base.proofs.Sweep.{sweep-none, sweep-turn, sweep-all}
-use Rattle.probability_normal.proofs.Normal.{map-tab}
-use borrow.Author.Rules.{rules}
+-- `probability_normal::fill` meets its contract: the copies that are laid are the value itself. Assumes nothing.
+use Rattle.std.proofs.Common.{refl, ◌∙◌}
+use Rattle.std.proofs.lemmas.Simd.{splat_is_map}
 use Rattle.probability_normal.proofs.fill.Goals as goal
 
-pub loop-k-init : goal.loop-k-init
-loop-k-init c = sweep-none
-
-pub loop-k-preserved : goal.loop-k-preserved
-loop-k-preserved c = sweep-turn c.loop-k.invariant (search rules) refl
-
 pub returns : goal.returns
-returns c = let s = c.args in
-    sweep-all c.loop-k.invariant (search rules) ∙ map-tab (λ (_ : Float). s.x) s.ps.now nan nan
+returns c = c.fill.ensures.after (λ y e. e) ∙ splat_is_map c.args.ps.now _ c.args.x refl

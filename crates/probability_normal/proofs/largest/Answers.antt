@@ -3,16 +3,15 @@ use mathlib.Core.Path.{refl, sym, ◌∙◌}
 use lib.Ieee.{nan}
 use Rattle.base.proofs.Tabled.{fold_step, fold_done}
 use Rattle.rules.specs.Probabilities.{larger, largest_of}
-use borrow.Author.Rules.{rules}
 use Rattle.probability_normal.proofs.largest.Goals as goal
 
-pub loop-k-init : goal.loop-k-init
+pub loop-p-init : goal.loop-p-init
 unfolding largest_of
-loop-k-init c = (search rules, refl)
+loop-p-init c = refl
 
-pub loop-k-preserved : goal.loop-k-preserved
-loop-k-preserved c = let e = fold_step larger c.args.ps.now c.loop-k.k nan c.loop-k.most c.loop-k-test.true in
-    (search rules, rw c.larger-most.ensures (sym e ∙ c.loop-k.invariant.1))
+pub loop-p-preserved : goal.loop-p-preserved
+loop-p-preserved c =
+    rw c.larger-most.ensures (sym (fold_step larger c.args.ps.now c.loop-p.p-index nan c.loop-p.most c.loop-p-test.true) ∙ c.loop-p.invariant)
 
 pub returns : goal.returns
-returns c = sym (fold_done larger c.args.ps.now c.loop-k.k c.loop-k.most c.loop-k-test.false) ∙ c.loop-k.invariant.1
+returns c = sym (fold_done larger c.args.ps.now c.loop-p.p-index c.loop-p.most c.loop-p-test.false) ∙ c.loop-p.invariant

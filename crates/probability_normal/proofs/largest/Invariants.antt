@@ -1,13 +1,9 @@
 -- `probability_normal::largest` meets its contract. The loop's invariant: folding what is left from here gives the whole. Assumes nothing.
-use Prim.Native.Nat.{◌-◌, ◌≤◌}
 use mathlib.Core.Path.{◌≡◌}
-use lib.ListN.{length, drop}
+use lib.ListN.{drop}
 use Rattle.base.specs.Tables.{fold}
 use Rattle.rules.specs.Probabilities.{larger, largest_of}
 use Rattle.probability_normal.proofs.largest.Given as goal
 
-abbrev pub invariant-loop-k : goal.invariant-loop-k
-invariant-loop-k l = (l.k ≤ length l.ps) × (fold larger l.most (drop l.k l.ps) ≡ largest_of l.ps)
-
-abbrev pub decreases-loop-k : goal.decreases-loop-k
-decreases-loop-k l = length l.ps - l.k
+abbrev pub invariant-loop-p : goal.invariant-loop-p
+invariant-loop-p l = fold larger l.most (drop l.p-index l.ps) ≡ largest_of l.ps

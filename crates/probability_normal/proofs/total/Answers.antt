@@ -3,19 +3,15 @@ use mathlib.Core.Path.{refl, sym, ◌∙◌}
 use lib.Ieee.{nan}
 use Rattle.base.proofs.Tabled.{fold_step, fold_done}
 use Rattle.rules.specs.Probabilities.{plus_share, total_of}
-use borrow.Author.Rules.{rules}
 use Rattle.probability_normal.proofs.total.Goals as goal
 
-pub loop-k-init : goal.loop-k-init
+pub loop-p-init : goal.loop-p-init
 unfolding total_of
-loop-k-init c = (search rules, refl)
+loop-p-init c = refl
 
-pub loop-k-preserved : goal.loop-k-preserved
-loop-k-preserved c = (
-  search rules,
-  sym (fold_step (plus_share c.args.most) c.args.ps.now c.loop-k.k nan c.loop-k.sum c.loop-k-test.true)
-      ∙ c.loop-k.invariant.1,
-)
+pub loop-p-preserved : goal.loop-p-preserved
+loop-p-preserved c =
+    sym (fold_step (plus_share c.args.most) c.args.ps.now c.loop-p.p-index nan c.loop-p.sum c.loop-p-test.true) ∙ c.loop-p.invariant
 
 pub returns : goal.returns
-returns c = sym (fold_done (plus_share c.args.most) c.args.ps.now c.loop-k.k c.loop-k.sum c.loop-k-test.false) ∙ c.loop-k.invariant.1
+returns c = sym (fold_done (plus_share c.args.most) c.args.ps.now c.loop-p.p-index c.loop-p.sum c.loop-p-test.false) ∙ c.loop-p.invariant
