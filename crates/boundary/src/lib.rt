@@ -3,86 +3,48 @@
 #![tactic(auto)]
 
 ghost use Rattle.std.specs.Prelude.{◌≡◌};
+ghost use Rattle.rules.specs.Answers.{number_of};
 ghost use Rattle.rules.specs.Promises.{before, after};
-ghost use Rattle.boundary.specs.Boundary.{written_number, lay_number, lift_number, TellsWidening, TellsListing, TellsSet, TellsVerdict};
+ghost use Rattle.boundary_slots.specs.Slots.{offset_stored};
+ghost use Rattle.boundary.specs.Boundary.{set_stored, truth_stored, Tells};
 
-use boundary_slots::{digit, put_offset, put_word};
+use boundary_slots::{digit, put, put_offset};
 use rules::{Offset, Refusal, TileBitset};
 
-pub fn written(answer: Result<(), Refusal>) -> u32
-    ensures { result ≡ written_number answer }
+// The number of an answer, whatever it tells.
+pub fn written<A: Copy>(answer: Result<A, Refusal>) -> u32
+    ensures { result ≡ number_of answer }
 {
     match answer {
-        Ok(()) => 0,
-        Err(n) => n as u32,
-    }
-}
-
-pub fn laid(answer: Result<(), Refusal>) -> u32
-    ensures { result ≡ lay_number answer }
-{
-    match answer {
-        Ok(()) => 0,
-        Err(n) => n as u32,
-    }
-}
-
-pub fn lifted(answer: Result<(), Refusal>) -> u32
-    ensures { result ≡ lift_number answer }
-{
-    match answer {
-        Ok(()) => 0,
-        Err(n) => n as u32,
+        Ok(_) => 0,
+        Err(refusal) => refusal as u32,
     }
 }
 
 pub fn widened(answer: Result<Offset, Refusal>, out: &mut [i32]) -> u32
-    ensures { TellsWidening answer (before out) result (after out) }
+    ensures { Tells offset_stored answer (before out) result (after out) }
 {
-    match answer {
-        Ok(offset) => {
-            put_offset(out, offset);
-            0
-        }
-        Err(n) => n as u32,
+    if let Ok(offset) = answer {
+        put_offset(out, offset);
     }
-}
-
-pub fn listed(answer: Result<TileBitset, Refusal>, out: &mut [u32]) -> u32
-    ensures { TellsListing answer (before out) result (after out) }
-{
-    match answer {
-        Ok(colours) => {
-            put_word(out, 0, colours.bits);
-            put_word(out, 1, colours.size);
-            0
-        }
-        Err(n) => n as u32,
-    }
+    written(answer)
 }
 
 pub fn set_given(answer: Result<TileBitset, Refusal>, out: &mut [u32]) -> u32
-    ensures { TellsSet answer (before out) result (after out) }
+    ensures { Tells set_stored answer (before out) result (after out) }
 {
-    match answer {
-        Ok(set) => {
-            put_word(out, 0, set.bits);
-            put_word(out, 1, set.size);
-            0
-        }
-        Err(n) => n as u32,
+    if let Ok(set) = answer {
+        put(out, 0, set.bits);
+        put(out, 1, set.size);
     }
+    written(answer)
 }
 
 pub fn judged(answer: Result<bool, Refusal>, out: &mut [u32]) -> u32
-    ensures { TellsVerdict answer (before out) result (after out) }
+    ensures { Tells truth_stored answer (before out) result (after out) }
 {
-    match answer {
-        Ok(truth) => {
-            let bit = digit(truth);
-            put_word(out, 0, bit);
-            0
-        }
-        Err(n) => n as u32,
+    if let Ok(truth) = answer {
+        put(out, 0, digit(truth));
     }
+    written(answer)
 }

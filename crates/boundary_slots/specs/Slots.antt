@@ -1,7 +1,7 @@
 -- What crosses to another language in both directions: places, pads and sets from their numbers, a value in an entry of a lent slice, an
 -- offset in two, a truth as a number.
-use Rattle.std.specs.Prelude.{ℕ, Bool, true, false, List, set, ℤ}
-use Rattle.base.specs.Counting.{pick}
+use Rattle.std.specs.Prelude.{ℕ, Bool, true, false, List, set, Option, ℤ}
+use Rattle.rules.specs.Answers.{if_there}
 use Rattle.rules.specs.declared.World.{World}
 use Rattle.rules.specs.declared.Offset.{Offset}
 use Rattle.rules.specs.declared.Span.{Span}
@@ -19,7 +19,7 @@ offset_by row col = record { 0 = row; 1 = col }
 
 -- the box of two corners, or none
 unfoldable pub bounds_from : Bool → World → World → Option BoundingBox
-bounds_from within least most = pick within (Within (record { min = least; max = most })) Unbounded
+bounds_from within least most = if_there within (record { min = least; max = most })
 
 abbrev pub span_from : ℕ → ℕ → Span
 span_from start end = record { 0 = start; 1 = end }

@@ -8,51 +8,20 @@ ghost use Rattle.boundary_slots.specs.Slots.{put, world, offset_by, bounds_from,
 
 use rules::{BoundingBox, Offset, World};
 
-pub fn put_word(words: &mut [u32], at: usize, word: u32)
-    ensures { after words ≡ put (before words) at word }
+// By the index: `get_mut` says nothing of what the slice holds in the end.
+pub fn put<T: Copy>(entries: &mut [T], at: usize, value: T)
+    ensures { after entries ≡ put (before entries) at value }
 {
-    if at < words.len() {
-        words[at] = word;
-    }
-}
-
-pub fn put_long(longs: &mut [u64], at: usize, long: u64)
-    ensures { after longs ≡ put (before longs) at long }
-{
-    if at < longs.len() {
-        longs[at] = long;
-    }
-}
-
-pub fn put_float(floats: &mut [f64], at: usize, float: f64)
-    ensures { after floats ≡ put (before floats) at float }
-{
-    if at < floats.len() {
-        floats[at] = float;
-    }
-}
-
-pub fn put_byte(bytes: &mut [u8], at: usize, byte: u8)
-    ensures { after bytes ≡ put (before bytes) at byte }
-{
-    if at < bytes.len() {
-        bytes[at] = byte;
-    }
-}
-
-pub fn put_signed(numbers: &mut [i32], at: usize, number: i32)
-    ensures { after numbers ≡ put (before numbers) at number }
-{
-    if at < numbers.len() {
-        numbers[at] = number;
+    if at < entries.len() {
+        entries[at] = value;
     }
 }
 
 pub fn put_offset(numbers: &mut [i32], offset: Offset)
     ensures { after numbers ≡ offset_stored offset (before numbers) }
 {
-    put_signed(numbers, 0, offset.0);
-    put_signed(numbers, 1, offset.1);
+    put(numbers, 0, offset.0);
+    put(numbers, 1, offset.1);
 }
 
 pub fn world_at(row: i32, col: i32) -> World
@@ -71,18 +40,14 @@ pub fn offset_at(row: i32, col: i32) -> Offset
 pub fn bounds_from(within: bool, least: World, most: World) -> Option<BoundingBox>
     ensures { result ≡ bounds_from within least most }
 {
-    if within {
-        let corners = BoundingBox {
-            min: least,
-            max: most,
-        };
-        return Some(corners);
-    }
-    None
+    within.then_some(BoundingBox {
+        min: least,
+        max: most,
+    })
 }
 
 pub fn digit(truth: bool) -> u32
     ensures { result ≡ digit_of truth }
 {
-    if truth { 1 } else { 0 }
+    u32::from(truth)
 }
