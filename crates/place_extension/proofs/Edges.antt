@@ -74,21 +74,22 @@ module _ (o x : ℤ) (k : ℕ) (p : mag o < 1000001) (q : mag x < 1000001) (h : 
       omega arith
 
 -- those of both sides, without and with a box
-pub pads-low : (rows cols : ℕ) (o : Offset) (w : World) (k : ℕ) → Reached rows cols o w k → PadsIn (pads_of rows cols o w k)
+pub pads-low : (rows cols : ℕ) (o : Offset) (w : World) (k : ℕ) {p : Pads} → p ≡ pads_of rows cols o w k → Reached rows cols o w k → PadsIn p
 unfolding pads_of
-pads-low rows cols o w k h =
+pads-low rows cols o w k e h =
     let p = offset-low o h.fitting in
     let q = wall-low w h.walled in
-    record {
+    rw e
+    (record {
       left_in = before-low o.0 w.0 k p.0 q.0 h.near;
       right-in = after-low o.0 w.0 k p.0 q.0 h.near rows (board-rows rows cols h.sides).1;
       top_in = before-low o.1 w.1 k p.1 q.1 h.near;
       bottom-in = after-low o.1 w.1 k p.1 q.1 h.near cols (board-cols rows cols h.sides).1;
-    }
+    })
 
-pub boxed-low : (b : BoundingBox) (rows cols : ℕ) (o : Offset) (p : Pads) → PadsIn p → PadsIn (boxed_pads b rows cols o p)
+pub boxed-low : (b : BoundingBox) (rows cols : ℕ) (o : Offset) (p : Pads) {q : Pads} → q ≡ boxed_pads b rows cols o p → PadsIn p → PadsIn q
 unfolding boxed_pads boxed_before boxed_after
-boxed-low b rows cols o p h = record { left_in = omega arith; right-in = omega arith; top_in = omega arith; bottom-in = omega arith }
+boxed-low b rows cols o p e h = rw e (record { left_in = omega arith; right-in = omega arith; top_in = omega arith; bottom-in = omega arith })
 
 pub four : {a b d e x y z u : ℕ} → a ≡ x → b ≡ y → d ≡ z → e ≡ u
     → ◌≡◌ {A = Pads} (record { left = a; right = b; top = d; bottom = e }) (record { left = x; right = y; top = z; bottom = u })

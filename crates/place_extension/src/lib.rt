@@ -11,7 +11,13 @@ use rules::{BoundingBox, ExtensionInfo, Offset, Refusal, World};
 mod pads;
 
 // The checks of both calls.
-fn check_extension(rows: usize, cols: usize, offset: Offset, place: World, radius: usize) -> Result<(), Refusal>
+fn check_extension(
+    rows: usize,
+    cols: usize,
+    offset: Offset,
+    place: World,
+    radius: usize,
+) -> Result<(), Refusal>
     ensures { result ≡ checked (extension_checks rows cols offset place radius) }
 {
     if !check_sizes::board_sides(rows, cols) {

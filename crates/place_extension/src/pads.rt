@@ -1,5 +1,5 @@
 // The pads along one side and along both. A sum of coordinates, offsets, sides and pads is taken in 64 bits, where none overflows.
-ghost use Rattle.std.specs.Prelude.{◌≡◌, true, ◌-◌, ◌≤◌};
+ghost use Rattle.std.specs.Prelude.{◌≡◌, true, ◌≤◌};
 ghost use Rattle.rules.specs.Bounds.{max_board_side, max_radius};
 ghost use Rattle.rules.specs.Tests.{board_sides, offset_fits};
 ghost use Rattle.rules.specs.Places.{pad_before, pad_after, boxed_before, boxed_after, pads_of, boxed_pads, extension_by};
@@ -25,20 +25,13 @@ fn pad_after(side: usize, coordinate: i32, offset: i32, radius: usize) -> usize
     places::clip_to(coordinate as i64 + radius as i64 - last)
 }
 
-// n less m, and 0 where m is more.
-fn less(n: usize, m: usize) -> usize
-    ensures { result ≡ n - m }
-{
-    if m < n { n - m } else { 0 }
-}
-
 // The pad before a side, less what of it lies before the box.
 fn boxed_before(least: i32, offset: i32, pad: usize) -> usize
     requires { pad ≤ max_pad }
     ensures { result ≡ boxed_before least offset pad }
 {
     let first = -(offset as i64);
-    less(pad, places::clip_to(least as i64 - (first - pad as i64)))
+    pad.saturating_sub(places::clip_to(least as i64 - (first - pad as i64)))
 }
 
 // The pad after a side, less what of it lies past the box.
@@ -47,7 +40,7 @@ fn boxed_after(most: i32, side: usize, offset: i32, pad: usize) -> usize
     ensures { result ≡ boxed_after most side offset pad }
 {
     let last = -(offset as i64) + side as i64 - 1;
-    less(pad, places::clip_to(last + pad as i64 - most as i64))
+    pad.saturating_sub(places::clip_to(last + pad as i64 - most as i64))
 }
 
 pub fn pads_of(rows: usize, cols: usize, offset: Offset, place: World, radius: usize) -> Pads
@@ -73,13 +66,11 @@ pub fn constrain_pads(
     requires { (board_sides rows cols ≡ true) × (PadsIn pads) }
     ensures { result ≡ boxed_pads bounds rows cols offset pads }
 {
-    let min = bounds.min;
-    let max = bounds.max;
     Pads {
-        left: boxed_before(min.0, offset.0, pads.left),
-        right: boxed_after(max.0, rows, offset.0, pads.right),
-        top: boxed_before(min.1, offset.1, pads.top),
-        bottom: boxed_after(max.1, cols, offset.1, pads.bottom),
+        left: boxed_before(bounds.min.0, offset.0, pads.left),
+        right: boxed_after(bounds.max.0, rows, offset.0, pads.right),
+        top: boxed_before(bounds.min.1, offset.1, pads.top),
+        bottom: boxed_after(bounds.max.1, cols, offset.1, pads.bottom),
     }
 }
 
@@ -88,23 +79,16 @@ pub fn offset_after(offset: Offset, pads: Pads) -> Offset
     requires { (offset_fits offset ≡ true) × (pads.left ≤ max_pad) × (pads.top ≤ max_pad) }
     ensures { result ≡ (extension_by offset pads).offset }
 {
-    let left = pads.left;
-    let top = pads.top;
-    Offset(offset.0 + left as i32, offset.1 + top as i32)
+    Offset(offset.0 + pads.left as i32, offset.1 + pads.top as i32)
 }
 
 pub fn extension_by(offset: Offset, pads: Pads) -> ExtensionInfo
     requires { (offset_fits offset ≡ true) × (PadsIn pads) }
     ensures { result ≡ extension_by offset pads }
 {
-    let left = pads.left;
-    let right = pads.right;
-    let top = pads.top;
-    let bottom = pads.bottom;
-    let moved = offset_after(offset, pads);
     ExtensionInfo {
         pads,
-        offset: moved,
-        needed: 0 < left + right + top + bottom,
+        offset: offset_after(offset, pads),
+        needed: 0 < pads.left + pads.right + pads.top + pads.bottom,
     }
 }

@@ -34,7 +34,7 @@ overflow_sub-last-3 c = sub-fits (added (last-is c.ranges.offset c.requires.0) (
 pub returns : goal.returns
 unfolding boxed_after
 returns c =
-    c.less.ensures
+    c.saturating_sub.ensures
     ∙ ap (λ (n : ℕ). c.args.pad - n)
     (c.clip_to.ensures
     ∙ ap clip (subbed (added (last-is c.ranges.offset c.requires.0) (pad-is c.requires.1) tt) (widened c.ranges.most) tt).is)

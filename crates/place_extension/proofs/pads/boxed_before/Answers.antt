@@ -27,7 +27,7 @@ overflow_sub-least c = sub-fits (widened c.ranges.least) (subbed (first-is c.ran
 pub returns : goal.returns
 unfolding boxed_before
 returns c =
-    c.less.ensures
+    c.saturating_sub.ensures
     ∙ ap (λ (n : ℕ). c.args.pad - n)
     (c.clip_to.ensures
     ∙ ap clip (subbed (widened c.ranges.least) (subbed (first-is c.ranges.offset) (pad-is c.requires) tt) tt).is)

@@ -12,4 +12,4 @@ moved e = rw e
 
 pub returns : goal.returns
 unfolding extension_by
-returns c = moved c.offset_after-moved.ensures
+returns c = moved c.offset_after.ensures
