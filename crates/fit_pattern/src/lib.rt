@@ -46,10 +46,8 @@ pub fn region_at(
     ensures { result ≡ tab 9 (pattern (flat rows cols) pieces.now (entry_of cols (cell_at row col))) }
 {
     let mut region = [0u8; rules::TILE_CELLS];
-    let mut i = 0;
-    while i < rules::TILE_CELLS {
-        region[i] = colour_at(pieces, rows, cols, row + i / 3, col + i % 3);
-        i += 1;
+    for (i, cell) in region.iter_mut().enumerate() {
+        *cell = colour_at(pieces, rows, cols, row + i / 3, col + i % 3);
     }
     region
 }
@@ -81,16 +79,14 @@ pub fn patch_at(
     ensures { result ≡ tab 25 (patch_round rows cols pieces.now (cell_at row col)) }
 {
     let mut patch = [0u8; PATCH_CELLS];
-    let mut j = 0;
-    while j < PATCH_CELLS {
-        patch[j] = colour_back(
+    for (j, cell) in patch.iter_mut().enumerate() {
+        *cell = colour_back(
             pieces,
             rows,
             cols,
             row + j / PATCH_SIDE,
             col + j % PATCH_SIDE,
         );
-        j += 1;
     }
     patch
 }
