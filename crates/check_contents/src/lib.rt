@@ -2,8 +2,8 @@
 // loop leaves early, so that the compiler can take many cells at a time.
 #![tactic(auto)]
 
-ghost use Rattle.std.specs.Prelude.{◌≡◌, true, ◌&&◌, ℕ, ◌<◌, leb};
-ghost use Rattle.base.specs.Counting.{within};
+ghost use Rattle.std.specs.Prelude.{◌≡◌, Bool, true, ◌&&◌, ℕ, ◌<◌, leb, length, get_or};
+ghost use Rattle.base.specs.Counting.{every, within};
 ghost use Rattle.rules.specs.Answers.{checked};
 ghost use Rattle.rules.specs.Tests.{colour_count, none_above, pieces_stored};
 ghost use Rattle.rules.specs.Floats.{is_number, is_finite, all_are};
@@ -11,18 +11,24 @@ ghost use Rattle.rules.specs.Fit.{contents_checks};
 
 use rules::Refusal;
 
-// Both: made of one operation without a branch.
-fn and_too(sofar: bool, here: bool) -> bool
-    ensures { result ≡ (sofar && here) }
+// Every entry of a plane passes a test: by one operation each, without a branch.
+fn all_pass<T: Copy, F: Fn(T) -> bool>(plane: &[T], test: F) -> bool
+    requires { F.IsAlwaysCallable test }
+    ensures { (f : T → Bool) (none : T) → ((x : T) (r : Bool) → F.post test x r → r ≡ f x)
+        → result ≡ every (length plane.now) (λ k. f (get_or plane.now k none)) }
 {
-    sofar & here
+    let mut fine = true;
+    for x in plane {
+        fine &= test(*x);
+    }
+    fine
 }
 
 // The limit as a byte: no byte is above 255, so a larger one tells nothing more.
 fn byte_limit(most: u32) -> u8
     ensures { (cell : ℕ) → cell < 256 → leb cell result ≡ leb cell most }
 {
-    if most < 255 { most as u8 } else { 255 }
+    u8::try_from(most).unwrap_or(u8::MAX)
 }
 
 // On bytes alone, so that the compiler compares sixteen at once.
@@ -36,27 +42,19 @@ pub fn no_byte_above(plane: &[u8], most: u32) -> bool
     ensures { result ≡ none_above plane.now most }
 {
     let limit = byte_limit(most);
-    let mut fine = true;
-    for cell in plane {
-        fine = and_too(fine, byte_up_to(*cell, limit));
-    }
-    fine
+    all_pass(plane, |cell| byte_up_to(cell, limit))
 }
 
 pub fn no_word_above(plane: &[u32], most: u32) -> bool
     ensures { result ≡ none_above plane.now most }
 {
-    let mut fine = true;
-    for cell in plane {
-        fine = and_too(fine, *cell <= most);
-    }
-    fine
+    all_pass(plane, |cell| cell <= most)
 }
 
 fn piece_stored(piece: u32, most: u32) -> bool
     ensures { result ≡ within 1 most piece }
 {
-    and_too(1 <= piece, piece <= most)
+    (1 <= piece) & (piece <= most)
 }
 
 fn pieces_stored(pieces: &[u32], count: u32) -> bool
@@ -64,11 +62,7 @@ fn pieces_stored(pieces: &[u32], count: u32) -> bool
     ensures { result ≡ pieces_stored pieces.now count }
 {
     let most = count + 1;
-    let mut fine = true;
-    for piece in pieces {
-        fine = and_too(fine, piece_stored(*piece, most));
-    }
-    fine
+    all_pass(pieces, |piece| piece_stored(piece, most))
 }
 
 // COUNT, then CELL of the tiles and of the stored pieces.
@@ -97,25 +91,17 @@ fn is_number(x: f64) -> bool
 fn is_finite(x: f64) -> bool
     ensures { result ≡ is_finite x }
 {
-    and_too(0.0 <= x, x < f64::from_bits(0x7ff0_0000_0000_0000))
+    (0.0 <= x) & (x < f64::from_bits(0x7ff0_0000_0000_0000))
 }
 
 pub fn all_numbers(plane: &[f64]) -> bool
     ensures { result ≡ all_are is_number plane.now }
 {
-    let mut fine = true;
-    for x in plane {
-        fine = and_too(fine, is_number(*x));
-    }
-    fine
+    all_pass(plane, is_number)
 }
 
 pub fn all_finite(plane: &[f64]) -> bool
     ensures { result ≡ all_are is_finite plane.now }
 {
-    let mut fine = true;
-    for x in plane {
-        fine = and_too(fine, is_finite(*x));
-    }
-    fine
+    all_pass(plane, is_finite)
 }

@@ -4,6 +4,6 @@ use lib.Ieee.{nan_bits}
 use borrow.Author.Rules.{rules}
 use Rattle.check_contents.proofs.is_finite.Goals as goal
 
-pub float_from_bits-and_too : goal.float_from_bits-and_too
+pub float_from_bits-result : goal.float_from_bits-result
 unfolding nan_bits
-float_from_bits-and_too c = search rules
+float_from_bits-result c = search rules

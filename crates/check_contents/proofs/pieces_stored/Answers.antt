@@ -1,23 +1,15 @@
--- `check_contents::pieces_stored` meets its contract. The loop's invariant: the answer so far is the test of every cell passed. Assumes nothing.
-use Rattle.base.specs.Counting.{every}
-use Rattle.base.proofs.Counted.{every-done}
+-- `check_contents::pieces_stored` meets its contract: what its test answers of each piece is what the definition says of it. Assumes nothing.
+use Prim.Native.Nat.{◌+◌}
 use native.Mathlib.Omega.{arith}
-use Rattle.check_sizes.proofs.Sides.{count_most}
-use Rattle.check_contents.proofs.Turn.{every-turn}
-use Rattle.rules.specs.Tests.{pieces_stored}
 use borrow.Author.Rules.{rules}
+use Rattle.base.specs.Counting.{within}
+use Rattle.check_sizes.proofs.Sides.{count_most}
+use Rattle.rules.specs.Tests.{pieces_stored}
 use Rattle.check_contents.proofs.pieces_stored.Goals as goal
 
 pub overflow_add-most : goal.overflow_add-most
 overflow_add-most c = omega (arith, count_most _ c.requires)
 
-pub loop-piece-init : goal.loop-piece-init
-unfolding every
-loop-piece-init c = search rules
-
-pub loop-piece-preserved : goal.loop-piece-preserved
-loop-piece-preserved c = every-turn _ c.loop-piece.invariant c.piece_stored.ensures c.and_too-fine.ensures
-
 pub returns : goal.returns
 unfolding pieces_stored
-returns c = every-done _ c.loop-piece.auto.piece-index-end c.loop-piece-test.false c.loop-piece.invariant
+returns c = c.all_pass.ensures (within 1 (c.args.count + 1)) 0 (λ x r e. search rules)
