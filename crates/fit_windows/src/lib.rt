@@ -1,14 +1,13 @@
 // Document 01, "Fit", for calls that have made the checks: how many tiles fit a region, and which colours fit a cell, by its nine windows.
 #![tactic(auto)]
 
-ghost use Rattle.std.specs.Prelude.{◌≡◌, not, ◌+◌, ◌*◌, ◌^◌, ◌<◌, ◌≤◌, eqb, length, get_or};
+ghost use Rattle.std.specs.Prelude.{◌≡◌, not, ◌+◌, ◌*◌, ◌^◌, ◌<◌, ◌≤◌, eqb, length, get_or, Ok};
 ghost use Rattle.base.specs.Counting.{pick};
 ghost use Rattle.rules.specs.Grid.{cell_at, entry_of, flat};
 ghost use Rattle.rules.specs.Bounds.{max_colours, max_tiles};
 ghost use Rattle.rules.specs.Tests.{tiles_in};
 ghost use Rattle.rules.specs.Sets.{bits_of};
 ghost use Rattle.rules.specs.Fit.{pattern, fit_count, serves, has_fitting, window_order, lists, found_at};
-ghost use Rattle.rules.specs.declared.Listing.TheVariants.{Colours};
 ghost use Rattle.fit_pattern.specs.Patch.{shown_in, window_of};
 ghost use Rattle.fit_pattern.specs.Ready.{CellOn, Painted};
 ghost use Rattle.fit_windows.specs.Ready.{Countable, Ready, Coloured};
@@ -185,11 +184,8 @@ pub fn viable_tiles_at(
 ) -> Result<TileBitset, Refusal>
     requires ready { Ready pieces.now rows cols tiles.now count }
     requires cell_on { CellOn rows cols cell.0 cell.1 }
-    ensures { result ≡ Colours (found_at (flat rows cols) tiles.now pieces.now count (entry_of cols cell)) }
+    ensures { result ≡ Ok (found_at (flat rows cols) tiles.now pieces.now count (entry_of cols cell)) }
 {
     let bits = viable_colours(pieces, rows, cols, tiles, count, cell.0, cell.1);
-    Ok(TileBitset {
-        bits: bits,
-        size: count,
-    })
+    Ok(TileBitset { bits, size: count })
 }
