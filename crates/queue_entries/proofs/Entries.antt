@@ -3,10 +3,14 @@
 use Prim.Native.Nat.{ℕ, suc, ◌+◌, ◌-◌, ◌<◌, ◌≤◌}
 use mathlib.Core.Path.{◌≡◌, sym, ◌∙◌, ap}
 use mathlib.Core.List.{List, [], ◌∷◌, ◌++◌}
-use native.Mathlib.Nat.{add-zero}
 use native.Mathlib.Omega.{arith}
-use lib.ListN.{length, get_or, take, drop, set, replicate, length-append, length-take}
-use lib.Seq.{take-append_seam, set-append_seam, append_snoc, length-take-le, length-slice, take-suc, drop-append-le, slice, slice-cons, slice_empty}
+use lib.ListN.{length, get_or, drop, set, replicate, length-append}
+use lib.Seq.{take-append_seam, set-append_seam, append_snoc, length-take-le, length-slice, slice, slice-cons}
+use borrow.Rule.Slice.PartMut.{put_mid}
+use Rattle.std.specs.List.{between}
+use Rattle.std.proofs.lemmas.Slice.{between_is}
+use Rattle.std.proofs.lemmas.List.{drop-replicate}
+use Rattle.std.specs.Prelude.{Ok, Some, None}
 use Rattle.rules.specs.Bounds.{queue_room}
 use Rattle.rules.specs.Forced.{padded, no_position, queued, queue_of}
 use Rattle.rules.specs.declared.ForcedPosition.{ForcedPosition}
@@ -29,13 +33,13 @@ length-queued q p h = length-take-le q.len q.entries (omega arith)
 
 -- taking: there is none, or the first one is entry 0
 pub out_none : (q left : ForcedPipeline) → q.len ≡ 0 → left ≡ queue_of []
-    → ◌≡◌ {A = Taken} (record { next = Nothing; queue = left }) (next_out (queued q))
+    → ◌≡◌ {A = Taken} (record { next = Ok None; queue = left }) (next_out (queued q))
 unfolding queued next_out
 out_none q left h e = rw (h, e)
 
 pub out_first : (q left : ForcedPipeline) (d : ForcedPosition) → 0 < q.len → q.len ≤ length q.entries
     → left ≡ queue_of (drop 1 (queued q))
-    → ◌≡◌ {A = Taken} (record { next = Next·.Taken (get_or q.entries 0 d); queue = left }) (next_out (queued q))
+    → ◌≡◌ {A = Taken} (record { next = Ok (Some (get_or q.entries 0 d)); queue = left }) (next_out (queued q))
 unfolding queued next_out
 out_first q left d h k e = rw (e, slice-cons 0 q.len q.entries d h k)
 
@@ -53,21 +57,16 @@ pub filled : (es l : List ForcedPosition) (n : ℕ) (e : ForcedPosition) → es 
     → set es n e ≡ padded queue_room (l ++ (e ∷ []))
 filled es l n e p q h = rw (p, sym q) (fill l e (rw (sym q) at h))
 
-pub none-moved : (es : List ForcedPosition) (start : ℕ) → (queue_of []).entries ≡ padded queue_room (slice start (start + 0) es)
-unfolding queue_of
-none-moved es start = rw add-zero (ap (padded queue_room) (sym (slice_empty start es)))
+-- what stands in a queue's room when the entries from `start` on were copied to its front
+pub moved : (es out ys : List ForcedPosition) (start n : ℕ) → n ≤ length es → out ≡ padded queue_room [] → ys ≡ between start n es
+    → put_mid 0 (n - start) out ys ≡ padded queue_room (slice start n es)
+unfolding padded
+moved es out ys start n h e y =
+    let l : ys ≡ slice start n es = y ∙ between_is es start n in
+    let m : length (slice start n es) ≡ n - start = length-slice start n es h in
+    rw (e, l, m) (ap (λ (r : List ForcedPosition). slice start n es ++ r) (drop-replicate (n - start) queue_room no_position))
 
--- a turn of the loop that moves the entries from entry start on to entry 0
-module _ (es : List ForcedPosition) (start i : ℕ) (h : start + i < length es) where
-  moving : (d : ForcedPosition) → slice start (start + (i + 1)) es ≡ slice start (start + i) es ++ (get_or es (start + i) d ∷ [])
-  moving d =
-      let n : start + (i + 1) ≡ suc (start + i) = omega arith in
-      let k : start ≤ length (take (start + i) es) = simp length-take (omega arith) in
-      rw (n, take-suc es (start + i) d) (drop-append-le start (take (start + i) es) (get_or es (start + i) d ∷ []) k)
-
-  so_far : length (slice start (start + i) es) ≡ i
-  so_far = length-slice start (start + i) es (omega arith) ∙ omega arith
-
-  pub moved : (d : ForcedPosition) (out : List ForcedPosition) → i < queue_room → out ≡ padded queue_room (slice start (start + i) es)
-      → set out i (get_or es (start + i) d) ≡ padded queue_room (slice start (start + (i + 1)) es)
-  moved d out k e = rw (moving d) (filled out (slice start (start + i) es) i (get_or es (start + i) d) e so_far k)
+pub left-is : (es out ys : List ForcedPosition) (start n : ℕ) → n ≤ length es → out ≡ padded queue_room [] → ys ≡ between start n es
+    → ◌≡◌ {A = ForcedPipeline} (record { entries = put_mid 0 (n - start) out ys; len = n - start }) (queue_of (slice start n es))
+left-is es out ys start n h e y =
+    queue-is _ (slice start n es) _ (moved es out ys start n h e y) (sym (length-slice start n es h))

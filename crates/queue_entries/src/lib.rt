@@ -6,7 +6,7 @@ ghost use Rattle.std.specs.Prelude.{◌≡◌, ◌≤◌, [], drop};
 ghost use Rattle.rules.specs.Bounds.{queue_room};
 ghost use Rattle.rules.specs.Places.{same_place};
 ghost use Rattle.rules.specs.Forced.{queued, offered, queue_of, is_queued, with_position, with_positions};
-ghost use Rattle.queue_entries.specs.Unchecked.{Part, Tidy, Adding, grown_to, next_out};
+ghost use Rattle.queue_entries.specs.Unchecked.{Part, Tidy, Adding, Adds, grown_to, next_out};
 
 use rules::{ForcedPipeline, ForcedPosition, ForcedPositions, Grown, Refusal, Taken, World};
 
@@ -29,15 +29,9 @@ fn rest_from(queue: ForcedPipeline, start: usize) -> ForcedPipeline
     requires { Part queue start }
     ensures { result ≡ queue_of (drop start (queued queue)) }
 {
-    let old = queue.entries;
     let len = queue.len - start;
-    let fresh = new();
-    let mut entries = fresh.entries;
-    let mut i = 0;
-    while i < len {
-        entries[i] = old[start + i];
-        i += 1;
-    }
+    let mut entries = new().entries;
+    entries[..len].copy_from_slice(&queue.entries[start..queue.len]);
     ForcedPipeline { entries, len }
 }
 
@@ -46,75 +40,51 @@ pub fn take_next(queue: ForcedPipeline) -> Taken
     ensures { result ≡ next_out (queued queue) }
 {
     if queue.len == 0 {
-        let next = Ok(None);
-        let left = new();
-        return Taken { next, queue: left };
+        return Taken {
+            next: Ok(None),
+            queue: new(),
+        };
     }
-    let entries = queue.entries;
-    let first = entries[0];
-    let next = Ok(Some(first);
-    let left = rest_from(queue, 1);
-    Taken { next, queue: left }
+    Taken {
+        next: Ok(Some(queue.entries[0])),
+        queue: rest_from(queue, 1),
+    }
 }
 
 // Whether two coordinates are one place.
 pub fn same_place(place: World, other: World) -> bool
     ensures { result ≡ same_place place other }
 {
-    place.0 == other.0 && place.1 == other.1
+    place == other
 }
 
 // Whether one of the entries stands at the place.
-fn is_queued(queue: ForcedPipeline, place: World) -> bool
-    requires { queue.len ≤ queue_room }
-    ensures { result ≡ is_queued place (queued queue) }
+fn is_queued(queue: &ForcedPipeline, place: World) -> bool
+    requires { queue.now.len ≤ queue_room }
+    ensures { result ≡ is_queued place (queued queue.now) }
 {
-    let entries = queue.entries;
-    let n = queue.len;
-    let mut i = 0;
-    while i < n {
-        let entry = entries[i];
-        let there = entry.coordinates;
-        if same_place(there, place) {
+    for entry in &queue.entries[..queue.len] {
+        if same_place(entry.coordinates, place) {
             return true;
         }
-        i += 1;
     }
     false
 }
 
 // One position more, at the back, unless its place is queued; ROOM where no entry is free.
-fn add_position(before: ForcedPipeline, position: ForcedPosition) -> Grown
-    requires { Tidy before }
-    ensures { result ≡ grown_to before (with_position (queued before) position) }
+fn add_position(queue: &mut ForcedPipeline, position: ForcedPosition) -> Result<(), Refusal>
+    requires { Tidy queue.old }
+    ensures { Adds queue.old (with_position (queued queue.old) position) result queue.new }
 {
-    let place = position.coordinates;
-    if is_queued(before, place) {
-        let answer = Ok(());
-        return Grown {
-            answer,
-            queue: before,
-        };
+    if is_queued(queue, position.coordinates) {
+        return Ok(());
     }
-    let n = before.len;
-    if n == rules::QUEUE_ROOM {
-        let answer = Err(Refusal::Room);
-        return Grown {
-            answer,
-            queue: before,
-        };
+    if queue.len == rules::QUEUE_ROOM {
+        return Err(Refusal::Room);
     }
-    let mut entries = before.entries;
-    entries[n] = position;
-    let longer = ForcedPipeline {
-        entries,
-        len: n + 1,
-    };
-    let answer = Ok(());
-    Grown {
-        answer,
-        queue: longer,
-    }
+    queue.entries[queue.len] = position;
+    queue.len += 1;
+    Ok(())
 }
 
 // All of them, or, where there is not room for all, none.
@@ -122,24 +92,17 @@ pub fn add_positions(queue: ForcedPipeline, positions: ForcedPositions) -> Grown
     requires { Adding queue positions }
     ensures { result ≡ grown_to queue (with_positions (queued queue) (offered positions)) }
 {
-    let more = positions.entries;
-    let n = positions.len;
     let mut grown = rest_from(queue, 0);
-    let mut i = 0;
-    while i < n {
-        let position = more[i];
-        let step = add_position(grown, position);
-        let answer = step.answer;
-        let Ok(()) = answer else {
-            return Grown { answer, queue };
-        };
-        let after = step.queue;
-        grown = after;
-        i += 1;
+    for position in &positions.entries[..positions.len] {
+        if let Err(refusal) = add_position(&mut grown, *position) {
+            return Grown {
+                answer: Err(refusal),
+                queue,
+            };
+        }
     }
-    let answer = Ok(());
     Grown {
-        answer,
+        answer: Ok(()),
         queue: grown,
     }
 }

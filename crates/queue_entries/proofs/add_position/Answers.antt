@@ -6,15 +6,12 @@ use Rattle.queue_entries.proofs.Growth.{adds-old, adds_none, adds-new}
 use Rattle.queue_entries.proofs.add_position.Goals as goal
 
 pub returns-then-is_queued : goal.returns-then-is_queued
-returns-then-is_queued c = adds-old _ _ c.before.before.before.requires (sym c.before.is_queued.ensures ∙ c.if-is_queued.true)
+returns-then-is_queued c = adds-old _ _ c.requires (sym c.is_queued.ensures ∙ c.if-is_queued.true)
 
-pub returns-then-n-eq-QUEUE_ROOM : goal.returns-then-n-eq-QUEUE_ROOM
-returns-then-n-eq-QUEUE_ROOM c =
-    let d = c.before in
-    adds_none _ _ d.before.before.before.requires (sym d.before.is_queued.ensures ∙ d.if-is_queued.false) c.if-n-eq-QUEUE_ROOM.true
+pub returns-then-queue-eq-QUEUE_ROOM : goal.returns-then-queue-eq-QUEUE_ROOM
+returns-then-queue-eq-QUEUE_ROOM c =
+    adds_none _ _ c.requires (sym c.is_queued.ensures ∙ c.if-is_queued.false) c.if-queue-eq-QUEUE_ROOM.true
 
 pub returns : goal.returns
 returns c =
-    let d = c.before.before in
-    adds-new _ _ d.before.before.before.requires (sym d.before.is_queued.ensures ∙ d.if-is_queued.false)
-    (omega (arith, d.before.before.before.requires.in-room, c.before.if-n-eq-QUEUE_ROOM.false))
+    adds-new _ _ c.requires (sym c.is_queued.ensures ∙ c.if-is_queued.false) (omega (arith, c.requires.in-room, c.if-queue-eq-QUEUE_ROOM.false))

@@ -5,26 +5,21 @@ use native.Mathlib.Omega.{arith}
 use Rattle.rules.specs.Forced.{offered, no_position}
 use Rattle.queue_entries.proofs.Entries.{length-queued}
 use Rattle.queue_entries.proofs.Growth.{grows_from, grows-on, grows-too-far, grows_end}
-use Rattle.queue_entries.proofs.add_positions.Goals.{Start}
 use Rattle.queue_entries.proofs.add_positions.Goals as goal
 
-pub loop-i-init : goal.loop-i-init
-loop-i-init c =
+pub loop-position-init : goal.loop-position-init
+loop-position-init c =
     let q = c.args.queue in
-    grows_from q _ _ _ c.rest_from-grown.ensures (omega (arith, length-queued q (omega (arith, c.well_formed)) c.requires.in-room))
+    grows_from q _ _ c.rest_from-grown.ensures (omega (arith, length-queued q (omega (arith, c.well_formed)) c.requires.in-room))
 
-pub returns-in_default : goal.returns-in_default
+pub returns-in-Err : goal.returns-in-Err
 unfolding offered
-returns-in_default c =
-    grows-too-far c.args.queue c.args.positions.entries _ _ _ no_position c.loop-i-test.true
-    (omega (arith, c.well_formed, c.requires.few)) c.loop-i.invariant _ c.add_position-step.ensures _ c.in_default.is
+returns-in-Err c = grows-too-far c.args.queue _ _ _ no_position c.loop-position-test.true c.loop-position.invariant c.in-Err.ensures
 
-pub loop-i-preserved : goal.loop-i-preserved
-loop-i-preserved c =
-    grows-on c.args.queue c.args.positions.entries _ _ _ no_position c.loop-i-test.true
-    (omega (arith, c.well_formed, c.requires.few)) c.loop-i.invariant _ c.add_position-step.ensures c.in-Done.is
+pub loop-position-preserved : goal.loop-position-preserved
+loop-position-preserved c =
+    grows-on c.args.queue _ _ _ no_position c.loop-position-test.true c.loop-position.invariant c.in_default.ensures
 
 pub returns : goal.returns
 unfolding offered
-returns c =
-    grows_end c.args.queue c.args.positions.entries _ _ _ c.loop-i-test.false c.loop-i.invariant
+returns c = grows_end c.args.queue _ _ _ c.loop-position-test.false c.loop-position.invariant
