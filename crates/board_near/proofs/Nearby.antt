@@ -16,7 +16,7 @@ use Rattle.base.proofs.Numbers.{row_of, col-of, row_lt, col-lt, lt-or-le}
 use Rattle.base.proofs.Regions.{between-low, between-high, is-between}
 use Rattle.rules.specs.Grid.{entry_of, cell_with, gap, distance, flat}
 use Rattle.rules.specs.declared.Cell.{Cell}
-use Rattle.rules.specs.declared.Span.{Span}
+use Rattle.rules.specs.declared.Spans.{Spans}
 use Rattle.board_near.specs.Near.{OnPlane, Nearby}
 
 -- the distance on the flat board from a cell to the one of entry k
@@ -38,11 +38,11 @@ gap-close : (x side n : ℕ) → between (x - 2) (min (x + 3) side) n ≡ true �
 gap-close x side n e =
     omega (arith, between-low (x - 2) (min (x + 3) side) n e, between-high (x - 2) (min (x + 3) side) n e, min-le_left (x + 3) side)
 
-module _ (rows cols : ℕ) (cell : Cell) (rowspan colspan : Span) (near : Nearby rows cols cell rowspan colspan) where
+module _ (rows cols : ℕ) (cell : Cell) (spans : Spans) (near : Nearby rows cols cell spans) where
   abbrev in_near : ℕ → Bool
-  in_near k = inside rowspan.0 rowspan.1 colspan.0 colspan.1 (k / cols) (k % cols)
+  in_near k = inside spans.rows.0 spans.rows.1 spans.cols.0 spans.cols.1 (k / cols) (k % cols)
 
-  pub near-region : (plane : List ℕ) → OnPlane plane rows cols cell → RegionFits (length plane) cols rowspan.0 rowspan.1 colspan.0 colspan.1
+  pub near-region : (plane : List ℕ) → OnPlane plane rows cols cell → RegionFits (length plane) cols spans.rows.0 spans.rows.1 spans.cols.0 spans.cols.1
   near-region plane on =
       let below : cell.0 - 2 ≤ min (cell.0 + 3) rows = le-min (omega arith) (omega (arith, on.rowwise)) in
       let right : cell.1 - 2 ≤ min (cell.1 + 3) cols = le-min (omega arith) (omega (arith, on.colwise)) in

@@ -3,7 +3,7 @@
 use Rattle.std.specs.Prelude.{ℕ, ◌+◌, ◌-◌, ◌*◌, ◌<◌, ◌≤◌, min, ◌≡◌, List, ◌+ℤ◌, length}
 use Rattle.base.specs.Refusal.{refusal}
 use Rattle.rules.specs.Bounds.{max_board_side}
-use Rattle.rules.specs.Answers.{Answer, span_answer}
+use Rattle.rules.specs.Answers.{Answer, answered}
 use Rattle.rules.specs.Places.{span_of}
 use Rattle.rules.specs.Fit.{place_checks}
 use Rattle.rules.specs.declared.World.{World}
@@ -21,11 +21,11 @@ pub record OnPlane (plane : List ℕ) (rows cols : ℕ) (cell : Cell) : Type 0 w
   pub colwise : cell.1 < cols
 
 -- the spans of radius 2 round a cell, their ends clipped to the sides
-pub record Nearby (rows cols : ℕ) (cell : Cell) (rowspan colspan : Span) : Type 0 where
-  pub top : rowspan.0 ≡ cell.0 - 2
-  pub bottom : rowspan.1 ≡ min (cell.0 + 3) rows
-  pub left : colspan.0 ≡ cell.1 - 2
-  pub right : colspan.1 ≡ min (cell.1 + 3) cols
+pub record Nearby (rows cols : ℕ) (cell : Cell) (spans : Spans) : Type 0 where
+  pub top : spans.rows.0 ≡ cell.0 - 2
+  pub bottom : spans.rows.1 ≡ min (cell.0 + 3) rows
+  pub left : spans.cols.0 ≡ cell.1 - 2
+  pub right : spans.cols.1 ≡ min (cell.1 + 3) cols
 
 -- those spans of a place that has to lie on the board
 abbrev pub end_clipped : ℕ → Span → Span
@@ -33,7 +33,9 @@ end_clipped side s = record { 0 = s.0; 1 = min s.1 side }
 
 unfoldable pub near_spans : ℕ → ℕ → World → Offset → Answer Spans
 near_spans rows cols place offset =
-    span_answer
+    answered
     (refusal (place_checks rows cols place offset))
-    (end_clipped rows (span_of (place.0 +ℤ offset.0) 2))
-    (end_clipped cols (span_of (place.1 +ℤ offset.1) 2))
+    (record {
+      rows = end_clipped rows (span_of (place.0 +ℤ offset.0) 2);
+      cols = end_clipped cols (span_of (place.1 +ℤ offset.1) 2);
+    })
