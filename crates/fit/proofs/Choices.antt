@@ -25,7 +25,7 @@ use Rattle.base.proofs.Numbers.{lt-or-le, within_low}
 use Rattle.base.proofs.Chain.{all_pass, none-fails, either}
 use Rattle.rules.specs.Bounds.{bare}
 use Rattle.rules.specs.Tests.{board_sides, has_length, tile_number_fits, whole_tiles, colour_count, none_above, pieces_stored, piece_stored, on_wall, offset_fits, on_board}
-use Rattle.rules.specs.Answers.{listing_answer}
+use Rattle.rules.specs.Answers.{answered}
 use Rattle.rules.specs.Sets.{has, bits_of}
 use Rattle.rules.specs.Grid.{entry_or_past, flat}
 use Rattle.rules.specs.Places.{cell_of}
@@ -67,7 +67,7 @@ can-shorten = (refl, refl, refl, refl, refl)
 -- ---- the two theorems
 
 -- an answer with a colour is no refusal
-told : (n : ℕ) (s : TileBitset) (t : ℕ) → answers (listing_answer n s) t ≡ true → (n ≡ 0) × (has s.bits t ≡ true)
+told : (n : ℕ) (s : TileBitset) (t : ℕ) → answers (answered n s) t ≡ true → (n ≡ 0) × (has s.bits t ≡ true)
 told zero s t e = (refl, e)
 told (suc n) s t e = never false e refl
 
@@ -94,7 +94,7 @@ module _ (j : Panel) (n : ℕ) (v : World) where
       let passes : refusal (listing_checks (set p k bare) j.rows j.cols j.tiles n v j.offset) ≡ 0 =
       none-fails (listing_checks (set p k bare) j.rows j.cols j.tiles n v j.offset)
       ((h.0.0, (long, (rest.0, (rest.1.0, (rest.1.1.0, stored))))), h.1) in
-      ap (λ (m : ℕ). answers (listing_answer m (found_at (shape_of j) j.tiles (set p k bare) n (entry_in j v))) t) passes
+      ap (λ (m : ℕ). answers (answered m (found_at (shape_of j) j.tiles (set p k bare) n (entry_in j v))) t) passes
       ∙ more-has n (lists (shape_of j) j.tiles p (entry_in j v)) (lists (shape_of j) j.tiles (set p k bare) (entry_in j v)) t
       (lists-fewer (shape_of j) j.tiles (under-lift p k) (entry_in j v) t) w.1
 

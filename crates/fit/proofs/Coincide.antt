@@ -3,7 +3,6 @@
 use Prim.Native.Nat.{ℕ}
 use mathlib.Core.Path.{◌≡◌}
 use mathlib.Core.List.{List}
-use Rattle.base.specs.Refusal.{refusal}
 use Rattle.base.proofs.Chain.{coincide}
 use Rattle.rules.specs.Grid.{Kind}
 use Rattle.rules.specs.Fit.{pieces_checks, listing, region_count}
@@ -11,12 +10,13 @@ use Rattle.rules.specs.Scores.{fraction_at}
 use Rattle.rules.specs.declared.World.{World}
 use Rattle.rules.specs.declared.Cell.{Cell}
 use Rattle.rules.specs.declared.Offset.{Offset}
-use Rattle.rules.specs.Answers.{Answer}
+use Rattle.rules.specs.Answers.{Answer, checked}
+use lib.Ieee.{Float}
 use Rattle.rules.specs.declared.TileBitset.{TileBitset}
 
-pub pieces-refused : (pieces : List ℕ) (rows cols : ℕ) (tiles : List ℕ) (count : ℕ) {r s : ℕ} → r ≡ refusal (pieces_checks pieces rows cols tiles count)
-    → s ≡ refusal (pieces_checks pieces rows cols tiles count) → r ≡ s
-pieces-refused pieces rows cols tiles count = coincide
+pub check-pieces : (pieces : List ℕ) (rows cols : ℕ) (tiles : List ℕ) (count : ℕ) {r s : Answer Unit} → r ≡ checked (pieces_checks pieces rows cols tiles count)
+    → s ≡ checked (pieces_checks pieces rows cols tiles count) → r ≡ s
+check-pieces pieces rows cols tiles count = coincide
 
 pub compute-viable-tiles-at-position : (kind : Kind) (pieces : List ℕ) (rows cols : ℕ) (tiles : List ℕ) (count : ℕ) (w : World) (o : Offset) {r s : Answer TileBitset}
     → r ≡ listing kind pieces rows cols tiles count w o → s ≡ listing kind pieces rows cols tiles count w o → r ≡ s

@@ -12,7 +12,13 @@ ghost use Rattle.rules.specs.Scores.{fraction, fraction_checks, fraction_at};
 use rules::{Cell, Offset, Refusal, TileBitset, World};
 
 // The checks of pieces and tiles.
-pub fn check_pieces(pieces: &[u32], rows: usize, cols: usize, tiles: &[u8], count: u32) -> Result<(), Refusal>
+pub fn check_pieces(
+    pieces: &[u32],
+    rows: usize,
+    cols: usize,
+    tiles: &[u8],
+    count: u32,
+) -> Result<(), Refusal>
     ensures { result ≡ checked (pieces_checks pieces.now rows cols tiles.now count) }
 {
     if !check_sizes::board_sides(rows, cols) {
@@ -75,7 +81,13 @@ pub fn count_fitting(
     Ok(fit_windows::fit_count_at(pieces, rows, cols, tiles, start.0, start.1) as usize)
 }
 
-fn check_fraction(counts: &[u32], rows: usize, cols: usize, tiles: usize, cell: Cell) -> Result<(), Refusal>
+fn check_fraction(
+    counts: &[u32],
+    rows: usize,
+    cols: usize,
+    tiles: usize,
+    cell: Cell,
+) -> Result<(), Refusal>
     ensures { result ≡ checked (fraction_checks counts.now rows cols tiles cell) }
 {
     if !check_sizes::board_sides(rows, cols) {

@@ -13,8 +13,8 @@ returns-then-not-board_sides c = search (chain, answers) depth 20 fits 5000
 pub cells_of-requires : goal.cells_of-requires
 cells_of-requires c = sym c.board_sides.ensures ∙ c.if-not-board_sides.false
 
-pub returns-then-not-words_have_length : goal.returns-then-not-words_have_length
-returns-then-not-words_have_length c = search (chain, answers, length-as) depth 20 fits 5000
+pub returns-then-not-has_length : goal.returns-then-not-has_length
+returns-then-not-has_length c = search (chain, answers, length-as) depth 20 fits 5000
 
 pub returns-then-not-tile_number_fits : goal.returns-then-not-tile_number_fits
 returns-then-not-tile_number_fits c = search (chain, answers, length-as) depth 20 fits 5000

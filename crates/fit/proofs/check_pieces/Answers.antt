@@ -3,6 +3,7 @@ use mathlib.Core.Path.{sym, ◌∙◌}
 use Rattle.base.proofs.Chain.{chain}
 use Rattle.rules.proofs.Answered.{answers}
 use Rattle.check_sizes.proofs.Lengths.{length-as}
+use Rattle.fit.proofs.Accepted.{then-part}
 use Rattle.fit.proofs.check_pieces.Goals as goal
 
 pub returns-then-not-board_sides : goal.returns-then-not-board_sides
@@ -11,11 +12,11 @@ returns-then-not-board_sides c = search (chain, answers) depth 20 fits 5000
 pub cells_of-requires : goal.cells_of-requires
 cells_of-requires c = sym c.board_sides.ensures ∙ c.if-not-board_sides.false
 
-pub returns-then-not-words_have_length : goal.returns-then-not-words_have_length
-returns-then-not-words_have_length c = search (chain, answers, length-as) depth 20 fits 5000
+pub returns-then-not-has_length : goal.returns-then-not-has_length
+returns-then-not-has_length c = search (chain, answers, length-as) depth 20 fits 5000
 
 pub returns-then-not-whole_tiles : goal.returns-then-not-whole_tiles
 returns-then-not-whole_tiles c = search (chain, answers, length-as) depth 20 fits 5000
 
 pub returns : goal.returns
-returns c = search (chain, answers, length-as) depth 20 fits 5000
+returns c = search (chain, answers, length-as, then-part) depth 20 fits 5000

@@ -2,27 +2,27 @@
 use mathlib.Core.Path.{sym, ◌∙◌}
 use Rattle.base.proofs.Chain.{chain}
 use Rattle.rules.specs.Fit.{region_count}
-use Rattle.rules.proofs.Answered.{answers}
+use Rattle.rules.proofs.Answered.{answers, handed_to, passed}
 use Rattle.fit_windows.proofs.Accepted.{accepted-ready}
 use Rattle.fit.proofs.Accepted.{grid-on}
 use Rattle.fit.proofs.count_fitting.Goals as goal
 
-pub returns-then-refused-ne0 : goal.returns-then-refused-ne0
+pub returns-in_err-check_pieces : goal.returns-in_err-check_pieces
 unfolding region_count
-returns-then-refused-ne0 c = search (chain, answers) depth 20 fits 5000
+returns-in_err-check_pieces c = handed_to c.from_residual.ensures (search (chain, answers, c.in_err-check_pieces.was) depth 20 fits 5000)
 
 pub returns-then-not-on_grid : goal.returns-then-not-on_grid
 unfolding region_count
-returns-then-not-on_grid c = search (chain, answers) depth 20 fits 5000
+returns-then-not-on_grid c = search (chain, answers, passed _ _ c.check_pieces.ensures c.in_ok-check_pieces.was) depth 20 fits 5000
 
 pub fit_count_at-requires : goal.fit_count_at-requires
 fit_count_at-requires c =
     let on = grid-on _ _ _ (sym c.on_grid.ensures ∙ c.if-not-on_grid.false) in
     record {
-      countable = (accepted-ready _ _ _ _ _ (sym c.pieces_refused-refused.ensures ∙ c.if-refused-ne0.false)).tried;
+      countable = (accepted-ready _ _ _ _ _ (sym (passed _ _ c.check_pieces.ensures c.in_ok-check_pieces.was))).tried;
       cell_on = on;
     }
 
 pub returns : goal.returns
 unfolding region_count
-returns c = search (chain, answers) depth 20 fits 5000
+returns c = search (chain, answers, passed _ _ c.check_pieces.ensures c.in_ok-check_pieces.was) depth 20 fits 5000
