@@ -2,8 +2,8 @@
 -- outside the region stays.
 -- Assumes nothing.
 use Prim.Native.Nat.{ℕ, ◌+◌, ◌-◌, ◌*◌, ◌/◌, ◌%◌, ◌<◌, ◌≤◌}
-use mathlib.Core.Path.{◌≡◌, refl, sym, ◌∙◌, ap}
-use mathlib.Core.Bool.{Bool, true, false}
+use mathlib.Core.Path.{◌≡◌, refl, ◌∙◌, ap}
+use mathlib.Core.Bool.{true}
 use mathlib.Core.List.{List}
 use native.Mathlib.Nat.{zero-mul}
 use native.Mathlib.Omega.{arith}
@@ -12,24 +12,19 @@ use lib.ListN.{length, get_or, take, drop}
 use lib.Ieee.{Float, nan}
 use borrow.Author.Tests.{le-ltb, ltb-true}
 use Rattle.base.specs.Tables.{tab}
-use Rattle.base.proofs.Bools.{and_left, and_right, and_both, and-no-left, and-no-right, pick_no, by-test}
+use Rattle.base.proofs.Bools.{and_left, and_right, and_both, by-test}
 use Rattle.base.proofs.Sweep.{length_part, part_at}
 use Rattle.base.proofs.Regions.{is-between, region-is}
 use Rattle.base.proofs.Numbers.{cell-lt, row_of, col-of, rows_apart}
-use Rattle.rules.specs.Probabilities.{Region, Block, in_region, in_block, influence, product_at, quotient_at}
+use Rattle.rules.specs.Probabilities.{Region, Block, in_region, in_block, influence}
 use Rattle.rules.specs.declared.Span.{Span}
-use Rattle.probability_influence.specs.Step.{region_in, block_of, changed_at, multiplied_by, divided_by, changed_entry, block_row, colour_changed}
-
-unchanged : (reverse : Bool) (g : Region) (b : Block) (p : Float) (t r c : ℕ) → in_region g r c ≡ false → changed_at reverse g b p t r c ≡ p
-unfolding changed_at product_at quotient_at
-unchanged false g b p t r c e = pick_no _ _ _ e
-unchanged true g b p t r c e = pick_no _ _ _ (and-no-left _ _ (and-no-left _ _ e))
+use Rattle.probability_influence.specs.Step.{CellStep, RowStep, StepLaws, region_in, block_of, block_row, colour_changed}
 
 -- so one colour's plane, cell by cell
-pub colour-cells : (reverse : Bool) (cols : ℕ) (g : Region) (b : Block) (plane : List Float)
-    → colour_changed reverse cols g b plane ≡ tab (length plane) (λ k. changed_at reverse g b (get_or plane k nan) 0 (k / cols) (k % cols))
+pub colour-cells : {f : CellStep} {e : RowStep} → StepLaws f e → (cols : ℕ) (g : Region) (b : Block) (plane : List Float)
+    → colour_changed f cols g b plane ≡ tab (length plane) (λ k. f g b (get_or plane k nan) 0 (k / cols) (k % cols))
 unfolding colour_changed
-colour-cells reverse cols g b plane = region-is _ _ _ _ _ _ _ plane _ (λ _ _ _. refl) (λ k _ e. unchanged reverse g b _ 0 _ _ e)
+colour-cells laws cols g b plane = region-is _ _ _ _ _ _ _ plane _ (λ _ _ _. refl) (λ k _ e. laws.outside g b _ 0 _ _ e)
 
 -- the factors of the block for row i of the region
 abbrev row_factors : ℕ → ℕ → List Float → ℕ → List Float
@@ -85,22 +80,12 @@ module _ (brows bcols : ℕ) (block : List Float) (long : length block ≡ brows
     here : in_region g r (cs.0 + j) ≡ true
     here = and_both _ _ (is-between rs.0 rs.1 r low high) (is-between cs.0 cs.1 (cs.0 + j) (omega arith) end)
 
-    row-change : (reverse : Bool) (p : Float) → changed_entry reverse (row_factors brows bcols block (r - rs.0)) p j ≡ changed_at reverse g b p 0 r (cs.0 + j)
-    unfolding changed_entry multiplied_by divided_by changed_at product_at quotient_at
-    row-change false p =
-        by-test (in_block g b r (cs.0 + j))
-        (λ e. rw (within_block, here, e, entry e))
-        (λ e. rw (within_block, here, e))
-    row-change true p =
-        by-test (in_block g b r (cs.0 + j))
-        (λ e. rw (within_block, here, e, entry e))
-        (λ e. rw (within_block, here, e))
-
     -- as the block's row is lent
-    pub cell-change : (reverse : Bool) (p : Float) {row : Span} → row ≡ block_row brows bcols (r - rs.0)
-        → changed_entry reverse (take (row.1 - row.0) (drop row.0 block)) p j ≡ changed_at reverse g b p 0 r (cs.0 + j)
-    cell-change reverse p e =
-        ap (λ (x : Span). changed_entry reverse (take (x.1 - x.0) (drop x.0 block)) p j) e ∙ row-change reverse p
+    pub cell-change : {f : CellStep} {e : RowStep} → StepLaws f e → (p : Float) {row : Span} → row ≡ block_row brows bcols (r - rs.0)
+        → e (take (row.1 - row.0) (drop row.0 block)) p j ≡ f g b p 0 r (cs.0 + j)
+    cell-change {e = e} laws p is =
+        ap (λ (x : Span). e (take (x.1 - x.0) (drop x.0 block)) p j) is
+        ∙ laws.by-row g b (row_factors brows bcols block (r - rs.0)) p 0 r (cs.0 + j) j here within_block entry
 
 -- colour t's own part of the block
 abbrev own_block : ℕ → ℕ → List Float → ℕ → Block
@@ -121,19 +106,10 @@ module _ (brows bcols : ℕ) (block : List Float) (t : ℕ) (g : Region) where
       ap (λ (n : ℕ). get_or own n nan) z
       ∙ part_at nan block (t * (brows * bcols)) (t * (brows * bcols) + brows * bcols) (i * bcols + j) (omega (arith, cell-lt i< j<))
 
-  own-change : (reverse : Bool) (p : Float) (r c : ℕ)
-      → changed_at reverse g (own_block brows bcols block t) p 0 r c ≡ changed_at reverse g (block_of brows bcols block) p t r c
-  unfolding changed_at product_at quotient_at
-  own-change false p r c = by-test (in_block g (block_of brows bcols block) r c) (λ e. rw (e, own-entry r c e)) (λ e. rw e)
-  own-change true p r c =
-      by-test (in_block g (block_of brows bcols block) r c)
-      (λ e. rw (e, own-entry r c e))
-      (λ e.
-      let out = and-no-right (in_region g r c) (in_block g (block_of brows bcols block) r c) e in
-      pick_no _ _ _ (and-no-left _ _ out) ∙ sym (pick_no _ _ _ (and-no-left _ _ out)))
-
   -- as the cell is numbered among all colours
-  pub colour-change : (reverse : Bool) (cells cols j : ℕ) {p q : Float} → j < cells → p ≡ q
-      → changed_at reverse g (own_block brows bcols block t) p 0 (j / cols) (j % cols)
-      ≡ changed_at reverse g (block_of brows bcols block) q ((t * cells + j) / cells) ((t * cells + j) % cells / cols) ((t * cells + j) % cells % cols)
-  colour-change reverse cells cols j {q = q} h o = rw (o, row_of t h, col-of t h) (own-change reverse q (j / cols) (j % cols))
+  pub colour-change : {f : CellStep} {e : RowStep} → StepLaws f e → (cells cols j : ℕ) {p q : Float} → j < cells → p ≡ q
+      → f g (own_block brows bcols block t) p 0 (j / cols) (j % cols)
+      ≡ f g (block_of brows bcols block) q ((t * cells + j) / cells) ((t * cells + j) % cells / cols) ((t * cells + j) % cells % cols)
+  colour-change laws cells cols j {q = q} h o =
+      rw (o, row_of t h, col-of t h)
+      (laws.by-factor g (own_block brows bcols block t) (block_of brows bcols block) q 0 t (j / cols) (j % cols) refl (own-entry (j / cols) (j % cols)))

@@ -9,9 +9,10 @@ ghost use Rattle.base.specs.Tables.{tab};
 ghost use Rattle.rules.specs.Bounds.{max_influence_side};
 ghost use Rattle.rules.specs.Floats.{zero64, one64, over};
 ghost use Rattle.rules.specs.Promises.{before, after};
-ghost use Rattle.rules.specs.Probabilities.{clipped_to};
-ghost use Rattle.probability_influence.specs.Step.{region_in, block_of, multiplied_by, divided_by, changed_entry, block_row, colour_changed, colours_changed};
+ghost use Rattle.rules.specs.Probabilities.{clipped_to, product_at, quotient_at};
+ghost use Rattle.probability_influence.specs.Step.{CellStep, RowStep, StepLaws, region_in, block_of, multiplied_by, divided_by, block_row, colour_changed, colours_changed};
 ghost use Rattle.probability_influence.specs.Fits.{ColourFits, StepFits};
+ghost use Rattle.probability_influence.specs.Laws.{product-laws, quotient-laws};
 
 use rules::{Span, Spans};
 
@@ -22,44 +23,57 @@ fn factor(factors: &[f64], j: usize) -> f64
     if j < factors.len() { factors[j] } else { 1.0 }
 }
 
-// The cells of one row by the block's factors for that row. Multiplying by 1.0 is a step of the text and is taken.
-fn multiply_row(row: &mut [f64], factors: &[f64])
-    ensures { after row ≡ tab (length (before row)) (λ j. multiplied_by factors.now (get_or (before row) j nan) j) }
-{
-    let mut j = 0;
-    while j < row.len() {
-        row[j] = row[j] * factor(factors, j);
-        j += 1;
-    }
-}
-
 // A factor equal to zero is skipped.
-fn quotient(p: f64, factor: f64) -> f64
+fn divided(p: f64, factor: f64) -> f64
     ensures { result ≡ pick (ne factor zero64) (over p factor) p }
 {
     if factor != 0.0 { p / factor } else { p }
 }
 
-// Cells beyond the block are not visited.
-fn divide_row(row: &mut [f64], factors: &[f64])
-    ensures { after row ≡ tab (length (before row)) (λ j. divided_by factors.now (get_or (before row) j nan) j) }
-{
-    let end = places::least(row.len(), factors.len());
-    let mut j = 0;
-    while j < end {
-        row[j] = quotient(row[j], factors[j]);
-        j += 1;
+// A change of probabilities: what it makes of the probability of a cell, and of the cells of one row by the block's factors for that row.
+pub trait Change {
+    ghost cell: { CellStep };
+
+    ghost entry: { RowStep };
+
+    fn change_row(row: &mut [f64], factors: &[f64])
+        ensures { after row ≡ tab (length (before row)) (λ j. entry factors.now (get_or (before row) j nan) j) };
+
+    ghost laws: { StepLaws cell entry };
+}
+
+// The product step. Multiplying by 1.0 is a step of the text and is taken.
+pub struct Product;
+
+impl Change for Product {
+    ghost cell = { product_at };
+
+    ghost entry = { multiplied_by };
+
+    ghost laws = { product-laws };
+
+    fn change_row(row: &mut [f64], factors: &[f64]) {
+        for (j, p) in row.iter_mut().enumerate() {
+            *p = *p * factor(factors, j);
+        }
     }
 }
 
-fn change_row(reverse: bool, row: &mut [f64], factors: &[f64])
-    ensures { after row ≡ tab (length (before row)) (λ j. changed_entry reverse factors.now (get_or (before row) j nan) j) }
-{
-    if reverse {
-        divide_row(row, factors);
-        return;
+// Its reverse. Cells beyond the block are not visited.
+pub struct Quotient;
+
+impl Change for Quotient {
+    ghost cell = { quotient_at };
+
+    ghost entry = { divided_by };
+
+    ghost laws = { quotient-laws };
+
+    fn change_row(row: &mut [f64], factors: &[f64]) {
+        for j in 0..row.len().min(factors.len()) {
+            row[j] = divided(row[j], factors[j]);
+        }
     }
-    multiply_row(row, factors);
 }
 
 // Where row i of a block stands in it; a row past its last is empty.
@@ -75,8 +89,7 @@ fn block_row(brows: usize, bcols: usize, i: usize) -> Span
 }
 
 // One colour's plane. The block's entry (0, 0) goes to the first cell of the region.
-fn change_colour(
-    reverse: bool,
+fn change_colour<C: Change>(
     plane: &mut [f64],
     cols: usize,
     spans: Spans,
@@ -85,25 +98,18 @@ fn change_colour(
     bcols: usize,
 )
     requires { ColourFits plane.old block.now cols brows bcols spans.rows spans.cols }
-    ensures { after plane ≡ colour_changed reverse cols (region_in spans.rows spans.cols) (block_of brows bcols block.now) (before plane) }
+    ensures { after plane ≡ colour_changed C.cell cols (region_in spans.rows spans.cols) (block_of brows bcols block.now) (before plane) }
 {
-    let mut i = 0;
-    let mut r = spans.rows.0;
-    while r < spans.rows.1 {
-        let factors = block_row(brows, bcols, i);
-        let start = factors.0;
-        let end = factors.1;
+    for r in spans.rows.0..spans.rows.1 {
+        let factors = block_row(brows, bcols, r - spans.rows.0);
         let from = r * cols + spans.cols.0;
         let to = r * cols + spans.cols.1;
-        change_row(reverse, &mut plane[from..to], &block[start..end]);
-        i += 1;
-        r += 1;
+        C::change_row(&mut plane[from..to], &block[factors.0..factors.1]);
     }
 }
 
 // Every colour's plane, by that colour's part of the block.
-pub fn change_colours(
-    reverse: bool,
+pub fn change_colours<C: Change>(
     plane: &mut [f64],
     cells: usize,
     cols: usize,
@@ -114,30 +120,25 @@ pub fn change_colours(
     bcols: usize,
 )
     requires { StepFits plane.old block.now cells cols count brows bcols spans.rows spans.cols }
-    ensures { after plane ≡ colours_changed reverse cells cols (region_in spans.rows spans.cols) (block_of brows bcols block.now) (before plane) }
+    ensures { after plane ≡ colours_changed C.cell cells cols (region_in spans.rows spans.cols) (block_of brows bcols block.now) (before plane) }
 {
     let entries = brows * bcols;
-    let mut t = 0;
-    while t < count {
+    for t in 0..count {
         let from = t * cells;
-        let to = from + cells;
         let start = t * entries;
-        let end = start + entries;
-        change_colour(
-            reverse,
-            &mut plane[from..to],
+        change_colour::<C>(
+            &mut plane[from..from + cells],
             cols,
             spans,
-            &block[start..end],
+            &block[start..start + entries],
             brows,
             bcols,
         );
-        t += 1;
     }
 }
 
 pub fn clipped(side: usize, span: Span) -> Span
     ensures { result ≡ clipped_to side span }
 {
-    Span(places::least(span.0, side), places::least(span.1, side))
+    Span(span.0.min(side), span.1.min(side))
 }

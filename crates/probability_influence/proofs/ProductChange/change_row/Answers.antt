@@ -1,4 +1,4 @@
--- `probability_influence::multiply_row` meets its contract: a sweep. Assumes nothing.
+-- `probability_influence::Product` meets the contract of `change_row`: a sweep. Assumes nothing.
 use Prim.Native.Nat.{◌<◌}
 use mathlib.Core.Path.{ap, ◌∙◌}
 use lib.ListN.{length, get_or}
@@ -8,7 +8,7 @@ use native.Mathlib.Nat.{le_refl}
 use Rattle.rules.specs.Floats.{times}
 use Rattle.probability_influence.specs.Step.{multiplied_by}
 use borrow.Author.Rules.{rules}
-use Rattle.probability_influence.proofs.multiply_row.Goals as goal
+use Rattle.probability_influence.proofs.ProductChange.change_row.Goals as goal
 
 pub loop-j-init : goal.loop-j-init
 loop-j-init c = sweep-none
