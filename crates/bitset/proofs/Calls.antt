@@ -1,28 +1,23 @@
--- What a set that passed its checks is, and the exits of the call that lists its members.
+-- What a set that passed its checks is.
 -- Assumes nothing.
 use Prim.Native.Nat.{ℕ, ◌^◌, ◌<◌, ◌≤◌}
-use mathlib.Core.Path.{◌≡◌, refl, sym, ◌∙◌}
+use mathlib.Core.Path.{◌≡◌, refl, sym}
 use mathlib.Core.Bool.{true}
-use mathlib.Core.List.{List, []}
 use borrow.Author.Tests.{ltb-true}
-use Rattle.base.specs.Refusal.{Checks, refusal}
-use Rattle.base.proofs.Chain.{all_pass, refusing}
-use Rattle.base.proofs.Answered.{refuses, tells}
+use Rattle.base.specs.Refusal.{refusal}
+use Rattle.base.proofs.Chain.{all_pass}
 use Rattle.rules.specs.Bounds.{max_colours}
-use Rattle.rules.specs.Sets.{marks_within, set_checks, sets_checks, listed_or, colour_list}
+use Rattle.rules.specs.Tests.{colour_count}
+use Rattle.rules.specs.Sets.{marks_within, new_set_checks, set_checks, sets_checks}
 use Rattle.rules.specs.declared.TileBitset.{TileBitset}
-use Rattle.rules.specs.declared.ColourList.{ColourList}
 use Rattle.check_sizes.proofs.Sides.{count_most}
-
-pub list-refused : (cs : Checks) (l : List ℕ) (n : ℕ) → refusing n ≡ true → n ≡ refusal cs → colour_list n [] ≡ listed_or (refusal cs) l
-list-refused cs l n t e = refuses listed_or (λ m. colour_list m []) (λ m k. refl) cs l n t e
-
-pub list-told : (cs : Checks) (x : ColourList) (l : List ℕ) → 0 ≡ refusal cs → x ≡ colour_list 0 l → x ≡ listed_or (refusal cs) l
-list-told cs x l e p = p ∙ tells listed_or cs e refl
 
 marks : (s : TileBitset) → marks_within s ≡ true → s.bits < 2 ^ s.size
 unfolding marks_within
 marks s e = ltb-true s.bits (2 ^ s.size) e
+
+pub counted : (n : ℕ) → 0 ≡ refusal (new_set_checks n) → colour_count n ≡ true
+counted n e = all_pass (new_set_checks n) refl (sym e)
 
 module _ (s : TileBitset) where
   pub few : 0 ≡ refusal (set_checks s) → s.size ≤ max_colours

@@ -1,6 +1,7 @@
 -- Two results that meet the contract of a call coincide. Assumes nothing.
 use Prim.Native.Nat.{ℕ}
 use mathlib.Core.Path.{◌≡◌}
+use mathlib.Core.Bool.{Bool}
 use Rattle.base.proofs.Chain.{coincide}
 use Rattle.rules.specs.Sets.{empty_set, full_set, inserted, contained, intersected, emptiness, members_counted, members_listed}
 use Rattle.rules.specs.declared.TileBitset.{TileBitset}
@@ -28,5 +29,5 @@ is-empty-coincides s = coincide
 pub count-coincides : {x y : Answer ℕ} (s : TileBitset) → x ≡ members_counted s → y ≡ members_counted s → x ≡ y
 count-coincides s = coincide
 
-pub to-vec-coincides : {x y : ColourList} (s : TileBitset) → x ≡ members_listed s → y ≡ members_listed s → x ≡ y
+pub to-vec-coincides : {x y : Answer ColourList} (s : TileBitset) → x ≡ members_listed s → y ≡ members_listed s → x ≡ y
 to-vec-coincides s = coincide

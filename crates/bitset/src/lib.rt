@@ -5,9 +5,18 @@
 ghost use Rattle.std.specs.Prelude.{◌≡◌, true};
 ghost use Rattle.rules.specs.Answers.{checked};
 ghost use Rattle.rules.specs.Tests.{colour_count};
-ghost use Rattle.rules.specs.Sets.{marks_within, set_checks, sets_checks, empty_set, full_set, inserted, contained, intersected, emptiness, members_counted, members_listed};
+ghost use Rattle.rules.specs.Sets.{marks_within, new_set_checks, set_checks, sets_checks, empty_set, full_set, inserted, contained, intersected, emptiness, members_counted, members_listed};
 
 use rules::{ColourList, Refusal, TileBitset};
+
+fn check_size(size: u32) -> Result<(), Refusal>
+    ensures { result ≡ checked (new_set_checks size) }
+{
+    if !check_sizes::colour_count(size) {
+        return Err(Refusal::Count);
+    }
+    Ok(())
+}
 
 fn marks_within(set: TileBitset) -> bool
     requires { colour_count set.size ≡ true }
@@ -19,9 +28,7 @@ fn marks_within(set: TileBitset) -> bool
 fn check_set(set: TileBitset) -> Result<(), Refusal>
     ensures { result ≡ checked (set_checks set) }
 {
-    if !check_sizes::colour_count(set.size) {
-        return Err(Refusal::Count);
-    }
+    check_size(set.size)?;
     if !marks_within(set) {
         return Err(Refusal::Cell);
     }
@@ -31,9 +38,7 @@ fn check_set(set: TileBitset) -> Result<(), Refusal>
 fn check_sets(set: TileBitset, other: TileBitset) -> Result<(), Refusal>
     ensures { result ≡ checked (sets_checks set other) }
 {
-    if !check_sizes::colour_count(set.size) {
-        return Err(Refusal::Count);
-    }
+    check_size(set.size)?;
     if set.size != other.size {
         return Err(Refusal::Count);
     }
@@ -49,27 +54,16 @@ fn check_sets(set: TileBitset, other: TileBitset) -> Result<(), Refusal>
 pub fn new(size: u32) -> Result<TileBitset, Refusal>
     ensures { result ≡ empty_set size }
 {
-    if check_sizes::colour_count(size) {
-        Ok(TileBitset {
-            bits: 0,
-            size: size,
-        })
-    } else {
-        Err(Refusal::Count)
-    }
+    check_size(size)?;
+    Ok(TileBitset { bits: 0, size })
 }
 
 pub fn all(size: u32) -> Result<TileBitset, Refusal>
     ensures { result ≡ full_set size }
 {
-    if !check_sizes::colour_count(size) {
-        return Err(Refusal::Count);
-    }
+    let empty = new(size)?;
     let bits = bitset_colours::all_colours(size);
-    Ok(TileBitset {
-        bits: bits,
-        size: size,
-    })
+    Ok(TileBitset { bits, ..empty })
 }
 
 // 0 and a colour past the size are left out, as in the text.
@@ -81,10 +75,7 @@ pub fn insert(set: TileBitset, tile: u32) -> Result<TileBitset, Refusal>
         return Ok(set);
     }
     let bits = bitset_colours::with_colour(set.bits, tile);
-    Ok(TileBitset {
-        bits: bits,
-        size: set.size,
-    })
+    Ok(TileBitset { bits, ..set })
 }
 
 pub fn contains(set: TileBitset, tile: u32) -> Result<bool, Refusal>
@@ -102,10 +93,7 @@ pub fn intersection(set: TileBitset, other: TileBitset) -> Result<TileBitset, Re
 {
     check_sets(set, other)?;
     let bits = bitset_colours::common_colours(set.bits, other.bits);
-    Ok(TileBitset {
-        bits: bits,
-        size: set.size,
-    })
+    Ok(TileBitset { bits, ..set })
 }
 
 pub fn is_empty(set: TileBitset) -> Result<bool, Refusal>
@@ -122,16 +110,10 @@ pub fn count(set: TileBitset) -> Result<usize, Refusal>
     Ok(bitset_colours::colours_in(set.bits) as usize)
 }
 
-pub fn to_vec(set: TileBitset) -> ColourList
+pub fn to_vec(set: TileBitset) -> Result<ColourList, Refusal>
     ensures { result ≡ members_listed set }
 {
-    let refused = check_set(set);
-    if refused != 0 {
-        return ColourList {
-            refused: refused,
-            colours: [0u8; rules::MAX_COLOURS as usize],
-            len: 0,
-        };
-    }
-    bitset_colours::members(set.bits, set.size)
+    // A set that is refused has no list, not even an empty one.
+    check_set(set)?;
+    Ok(bitset_colours::members(set.bits, set.size))
 }

@@ -3,27 +3,28 @@ use mathlib.Core.Path.{sym, ap, ◌∙◌}
 use borrow.Author.Tests.{eq-eqb, ne_eqb}
 use Rattle.rules.specs.Tests.{colour_count}
 use Rattle.base.proofs.Chain.{chain}
-use Rattle.rules.proofs.Answered.{answers}
+use Rattle.rules.proofs.Answered.{answers, handed_to, passed}
+use Rattle.bitset.proofs.Calls.{counted}
 use Rattle.bitset.proofs.check_sets.Goals as goal
 
-pub returns-then-not-colour_count : goal.returns-then-not-colour_count
-returns-then-not-colour_count c = search (chain, answers) depth 20 fits 5000
+pub returns-in_err-check_size : goal.returns-in_err-check_size
+returns-in_err-check_size c = handed_to c.from_residual.ensures (search (chain, answers, c.in_err-check_size.was) depth 20 fits 5000)
 
 pub returns-then-set-other : goal.returns-then-set-other
-returns-then-set-other c = search (chain, answers, ne_eqb) depth 20 fits 5000
+returns-then-set-other c = let h = passed _ _ c.check_size.ensures c.in_ok-check_size.was in search (chain, answers, ne_eqb) depth 20 fits 5000
 
 pub marks_within-requires : goal.marks_within-requires
-marks_within-requires c = sym c.colour_count.ensures ∙ c.if-not-colour_count.false
+marks_within-requires c = counted c.args.set.size (passed _ _ c.check_size.ensures c.in_ok-check_size.was)
 
 pub returns-then-not-marks_within : goal.returns-then-not-marks_within
-returns-then-not-marks_within c = search (chain, answers, eq-eqb) depth 20 fits 5000
+returns-then-not-marks_within c = let h = passed _ _ c.check_size.ensures c.in_ok-check_size.was in search (chain, answers, eq-eqb) depth 20 fits 5000
 
 pub marks_within-requires-2 : goal.marks_within-requires-2
 marks_within-requires-2 c =
-    ap colour_count (sym c.if-set-other.false) ∙ sym c.colour_count.ensures ∙ c.if-not-colour_count.false
+    ap colour_count (sym c.if-set-other.false) ∙ counted c.args.set.size (passed _ _ c.check_size.ensures c.in_ok-check_size.was)
 
 pub returns-then-not-marks_within-2 : goal.returns-then-not-marks_within-2
-returns-then-not-marks_within-2 c = search (chain, answers, eq-eqb) depth 20 fits 5000
+returns-then-not-marks_within-2 c = let h = passed _ _ c.check_size.ensures c.in_ok-check_size.was in search (chain, answers, eq-eqb) depth 20 fits 5000
 
 pub returns : goal.returns
-returns c = search (chain, answers, eq-eqb) depth 20 fits 5000
+returns c = let h = passed _ _ c.check_size.ensures c.in_ok-check_size.was in search (chain, answers, eq-eqb) depth 20 fits 5000
