@@ -2,6 +2,7 @@
 --     not-admitted, off-board, on-board    what each test leaves of `forced_colour`
 --     beside    the position with that colour, none where it is 0, is the one that the definition finds
 -- Assumes nothing.
+use Rattle.std.specs.Prelude.{Option}
 use Prim.Native.Nat.{ℕ}
 use mathlib.Core.Path.{◌≡◌, refl, sym, ◌∙◌}
 use mathlib.Core.Bool.{Bool, true, false, not, ◌&&◌}

@@ -13,11 +13,13 @@ use Rattle.bitset_colours.proofs.Digits.{bits-lt}
 use Rattle.bitset_colours.proofs.Colours.{colours-back}
 use Rattle.bitset_colours.proofs.Calls.{set-bits}
 use Rattle.rules.specs.Answers.{Answer}
+use Rattle.rules.specs.declared.Refusal.{Refusal}
+use Rattle.std.specs.Prelude.{Ok, Err}
 
-pub never-refused : {A : Type 0} (l : Answer TileBitset) (s : TileBitset) (n : ℕ) → l ≡ Colours s → l ≡ Refused n → A
-never-refused l s n p q = absurd (let z : ◌≡◌ {A = ℕ} 0 1 = cc in omega arith)
+pub never-refused : {A : Type 0} (l : Answer TileBitset) (s : TileBitset) (r : Refusal) → l ≡ Ok s → l ≡ Err r → A
+never-refused l s r p q = absurd (let z : ◌≡◌ {A = ℕ} 0 1 = cc in omega arith)
 
-pub listing-says : {A : Type 0} {r : A} (say : List ℕ → A) (l : Answer TileBitset) (s : TileBitset) (n : ℕ) (f : ℕ → Bool) → l ≡ Colours s → l ≡ Colours (set_of n f)
+pub listing-says : {A : Type 0} {r : A} (say : List ℕ → A) (l : Answer TileBitset) (s : TileBitset) (n : ℕ) (f : ℕ → Bool) → l ≡ Ok s → l ≡ Ok (set_of n f)
     → ((m : ℕ) → s.bits < 2 ^ m → r ≡ say (colours_of m (has s.bits))) → r ≡ say (colours_of n f)
 listing-says say l s n f p q h =
     let e : s ≡ set_of n f = cc in

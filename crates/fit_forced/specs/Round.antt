@@ -1,5 +1,5 @@
 -- Forced neighbours once the checks are made: what the functions beneath the call lean on, and their answers one neighbour at a time.
-use Rattle.std.specs.Prelude.{ℕ, ◌≡◌, true, List, [], ◌∷◌, ◌++◌, eqb}
+use Rattle.std.specs.Prelude.{Option, ℕ, ◌≡◌, true, List, [], ◌∷◌, ◌++◌, eqb}
 use Rattle.base.specs.Counting.{pick}
 use Rattle.rules.specs.Tests.{on_wall}
 use Rattle.rules.specs.Places.{cell_of}

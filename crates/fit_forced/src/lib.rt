@@ -2,7 +2,7 @@
 // listed.
 #![tactic(auto)]
 
-ghost use Rattle.std.specs.Prelude.{◌≡◌, true, List, [], ◌<◌, pos, ◌+ℤ◌, ◌-ℤ◌, get_or};
+ghost use Rattle.std.specs.Prelude.{◌≡◌, true, List, [], ◌<◌, pos, ◌+ℤ◌, ◌-ℤ◌};
 ghost use Rattle.base.specs.Whole.{within_z};
 ghost use Rattle.rules.specs.Answers.{checked};
 ghost use Rattle.rules.specs.Bounds.{added_room, min_coordinate, max_coordinate};
@@ -12,19 +12,12 @@ ghost use Rattle.rules.specs.Forced.{neighbour, admits, bounds_fit, forced_round
 ghost use Rattle.rules.specs.declared.ForcedPosition.{ForcedPosition};
 ghost use Rattle.fit_pattern.specs.Ready.{CellOn};
 ghost use Rattle.fit_windows.specs.Ready.{Ready};
-ghost use Rattle.fit_forced.specs.Round.{Roundable, round_order, only_at, forced_colour, with_forced};
+ghost use Rattle.fit_forced.specs.Round.{Roundable, only_at, forced_colour, with_forced};
 
 use rules::{BoundingBox, Cell, ForcedPosition, ForcedPositions, Offset, Refusal, World};
 
 // The eight neighbours row by row, by their numbers in the 3x3; the place itself is 4.
 const ROUND_ORDER: [usize; rules::ADDED_ROOM] = [0, 1, 2, 3, 5, 6, 7, 8];
-
-fn round_place(i: usize) -> usize
-    requires { i < added_room }
-    ensures { result ≡ get_or round_order i 0 }
-{
-    ROUND_ORDER[i]
-}
 
 // The coordinate one back from this one and so many steps on.
 fn beside(coordinate: i32, step: usize) -> i32
@@ -48,20 +41,20 @@ fn neighbour_at(place: World, d: usize) -> World
 fn admitted(bounds: Option<BoundingBox>, place: World) -> bool
     ensures { result ≡ admits bounds place }
 {
-    let Some(corners) = bounds else {
-        return true;
-    };
-    place_boxes::in_box(corners, place)
+    match bounds {
+        Some(corners) => place_boxes::in_box(corners, place),
+        None => true,
+    }
 }
 
 // The corners of the box, if one is given, are on the wall.
 pub fn bounds_fit(bounds: Option<BoundingBox>) -> bool
     ensures { result ≡ bounds_fit bounds }
 {
-    let Some(corners) = bounds else {
-        return true;
-    };
-    place_boxes::box_fits(corners)
+    match bounds {
+        Some(corners) => place_boxes::box_fits(corners),
+        None => true,
+    }
 }
 
 // The only colour that a bare cell lists, 0 where there is none or more than one, or where the cell is laid. The listing is no refusal,
@@ -82,8 +75,7 @@ pub fn only_colour_at(
     if pieces[at] > rules::BARE_PIECE {
         return 0;
     }
-    let Ok(set) = fit_windows::viable_tiles_at(pieces, rows, cols, tiles, count, cell)
-    else {
+    let Ok(set) = fit_windows::viable_tiles_at(pieces, rows, cols, tiles, count, cell) else {
         return 0;
     };
     bitset_colours::only_colour(set.bits)
@@ -128,23 +120,18 @@ fn no_positions() -> ForcedPositions
 }
 
 // One position more, unless its colour is 0.
-fn with_forced(found: ForcedPositions, place: World, colour: u32) -> ForcedPositions
-    requires { found.len < added_room }
-    ensures { (l : List ForcedPosition) → found ≡ positions_of l → result ≡ positions_of (with_forced l place colour) }
+fn add_forced(found: &mut ForcedPositions, place: World, colour: u32)
+    requires { found.old.len < added_room }
+    ensures { (l : List ForcedPosition) → found.old ≡ positions_of l → found.new ≡ positions_of (with_forced l place colour) }
 {
     if colour == 0 {
-        return found;
+        return;
     }
-    let n = found.len;
-    let mut entries = found.entries;
-    entries[n] = ForcedPosition {
+    found.entries[found.len] = ForcedPosition {
         coordinates: place,
-        colour: colour,
+        colour,
     };
-    ForcedPositions {
-        entries: entries,
-        len: n + 1,
-    }
+    found.len += 1;
 }
 
 // The forced neighbours of a place, for calls that have made the checks.
@@ -162,12 +149,10 @@ pub fn forced_round(
     ensures { result ≡ positions_of (forced_round flat pieces.now rows cols tiles.now count place offset bounds) }
 {
     let mut found = no_positions();
-    let mut i = 0;
-    while i < rules::ADDED_ROOM {
-        let there = neighbour_at(place, round_place(i));
+    for d in &ROUND_ORDER {
+        let there = neighbour_at(place, *d);
         let colour = forced_colour(pieces, rows, cols, tiles, count, there, offset, bounds);
-        found = with_forced(found, there, colour);
-        i += 1;
+        add_forced(&mut found, there, colour);
     }
     found
 }
@@ -206,17 +191,6 @@ pub fn detect_forced_positions(
 ) -> Result<ForcedPositions, Refusal>
     ensures { result ≡ forced_neighbours flat pieces.now rows cols tiles.now count place offset bounds }
 {
-    let refused = check_forced(pieces, rows, cols, tiles, count, place, offset, bounds);
-    if refused != 0 {
-        let none = no_positions();
-        return Result<ForcedPositions, Refusal> {
-            refused: refused,
-            found: none,
-        };
-    }
-    let found = forced_round(pieces, rows, cols, tiles, count, place, offset, bounds);
-    Result<ForcedPositions, Refusal> {
-        refused: 0,
-        found: found,
-    }
+    check_forced(pieces, rows, cols, tiles, count, place, offset, bounds)?;
+    Ok(forced_round(pieces, rows, cols, tiles, count, place, offset, bounds))
 }

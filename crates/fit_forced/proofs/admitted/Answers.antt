@@ -2,10 +2,10 @@
 use Rattle.rules.specs.Forced.{admits}
 use Rattle.fit_forced.proofs.admitted.Goals as goal
 
-pub returns-in_default : goal.returns-in_default
+pub returns-in-Some : goal.returns-in-Some
 unfolding admits
-returns-in_default c = rw c.in_default.is
+returns-in-Some c = rw c.in-Some.is c.in_box.ensures
 
-pub returns : goal.returns
+pub returns-in-None : goal.returns-in-None
 unfolding admits
-returns c = rw c.in-Within.is c.in_box.ensures
+returns-in-None c = rw c.in-None.is

@@ -2,10 +2,10 @@
 use Rattle.rules.specs.Forced.{bounds_fit}
 use Rattle.fit_forced.proofs.bounds_fit.Goals as goal
 
-pub returns-in_default : goal.returns-in_default
+pub returns-in-Some : goal.returns-in-Some
 unfolding bounds_fit
-returns-in_default c = rw c.in_default.is
+returns-in-Some c = rw c.in-Some.is c.box_fits.ensures
 
-pub returns : goal.returns
+pub returns-in-None : goal.returns-in-None
 unfolding bounds_fit
-returns c = rw c.in-Within.is c.box_fits.ensures
+returns-in-None c = rw c.in-None.is

@@ -1,13 +1,18 @@
--- `fit_forced::detect_forced_positions` meets its contract: its two exits are a refusal with no position, and the round. Assumes nothing.
-use mathlib.Core.Path.{sym, ◌∙◌}
-use Rattle.fit_forced.proofs.Accepted.{roundable, refused-is, found-is}
+-- `fit_forced::detect_forced_positions` meets its contract: the checks, then the round. Assumes nothing.
+use mathlib.Core.Path.{sym}
+use Rattle.base.proofs.Chain.{chain}
+use Rattle.rules.specs.Forced.{forced_neighbours}
+use Rattle.rules.proofs.Answered.{answers, handed_to, passed}
+use Rattle.fit_forced.proofs.Accepted.{roundable}
 use Rattle.fit_forced.proofs.detect_forced_positions.Goals as goal
 
-pub returns-then-refused-ne0 : goal.returns-then-refused-ne0
-returns-then-refused-ne0 c = refused-is _ _ _ _ _ _ _ _ _ _ _ c.forced_refused-refused.ensures c.if-refused-ne0.true c.no_positions-none.ensures
+pub returns-in_err-check_forced : goal.returns-in_err-check_forced
+unfolding forced_neighbours
+returns-in_err-check_forced c = handed_to c.from_residual.ensures (search (chain, answers, c.in_err-check_forced.was) depth 20 fits 5000)
 
-pub forced_round-found-requires : goal.forced_round-found-requires
-forced_round-found-requires c = roundable _ _ _ _ _ _ _ _ (sym c.forced_refused-refused.ensures ∙ c.if-refused-ne0.false)
+pub forced_round-requires : goal.forced_round-requires
+forced_round-requires c = roundable _ _ _ _ _ _ _ _ (sym (passed _ _ c.check_forced.ensures c.in_ok-check_forced.was))
 
 pub returns : goal.returns
-returns c = found-is _ _ _ _ _ _ _ _ _ _ _ c.forced_refused-refused.ensures c.if-refused-ne0.false c.forced_round-found.ensures
+unfolding forced_neighbours
+returns c = search (chain, answers, passed _ _ c.check_forced.ensures c.in_ok-check_forced.was) depth 20 fits 5000

@@ -33,5 +33,5 @@ returns-in_default c = never-refused _ _ _ c.viable_tiles_at.ensures c.in_defaul
 
 pub returns : goal.returns
 returns c =
-    listing-says only _ _ _ _ c.in-Colours.is c.viable_tiles_at.ensures c.only_colour.ensures
+    listing-says only _ _ _ _ c.in-Ok.is c.viable_tiles_at.ensures c.only_colour.ensures
     ∙ sym (pick_no _ _ _ (le-ltb 1 _ c.if-pieces-at-gt-BARE_PIECE.false))
