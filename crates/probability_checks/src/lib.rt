@@ -55,7 +55,7 @@ fn influence_sides(brows: usize, bcols: usize) -> bool
 fn influence_side(side: usize) -> bool
     ensures { result ≡ within 1 max_influence_side side }
 {
-    1 <= side && side <= rules::MAX_INFLUENCE_SIDE
+    (1..=rules::MAX_INFLUENCE_SIDE).contains(&side)
 }
 
 fn check_influence(

@@ -43,8 +43,8 @@ overflow_mul-count c =
     let n : c.args.count ≤ 2 ^ 32 = omega (arith, c.ranges) in
     record { fits = omega (arith, mul-le n (cells c.args.rows c.args.cols c.board_sides.ensures c.if-not-board_sides.false)) }
 
-pub returns-then-not-floats_have_length : goal.returns-then-not-floats_have_length
-returns-then-not-floats_have_length c = search (chain, answers) depth 20 fits 5000
+pub returns-then-not-has_length : goal.returns-then-not-has_length
+returns-then-not-has_length c = search (chain, answers) depth 20 fits 5000
 
 pub overflow_mul-brows : goal.overflow_mul-brows
 overflow_mul-brows c =
@@ -55,8 +55,8 @@ overflow_mul-count-2 c =
     let n : c.args.count ≤ 2 ^ 32 = omega (arith, c.ranges) in
     record { fits = omega (arith, mul-le n (entries c.args.brows c.args.bcols c.influence_sides.ensures c.if-not-influence_sides.false)) }
 
-pub returns-then-not-floats_have_length-2 : goal.returns-then-not-floats_have_length-2
-returns-then-not-floats_have_length-2 c = search (chain, answers) depth 20 fits 5000
+pub returns-then-not-has_length-2 : goal.returns-then-not-has_length-2
+returns-then-not-has_length-2 c = search (chain, answers) depth 20 fits 5000
 
 pub returns-then-not-colour_count : goal.returns-then-not-colour_count
 returns-then-not-colour_count c = search (chain, answers) depth 20 fits 5000

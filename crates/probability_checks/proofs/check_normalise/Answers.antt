@@ -20,11 +20,11 @@ overflow_mul-count c =
     let n : c.args.count ≤ 2 ^ 32 = omega (arith, c.ranges) in
     record { fits = omega (arith, mul-le n (few-cells c.args.rows c.args.cols (sym c.board_sides.ensures ∙ c.if-not-board_sides.false))) }
 
-pub returns-then-not-floats_have_length : goal.returns-then-not-floats_have_length
-returns-then-not-floats_have_length c = search (chain, answers) depth 20 fits 5000
+pub returns-then-not-has_length : goal.returns-then-not-has_length
+returns-then-not-has_length c = search (chain, answers) depth 20 fits 5000
 
-pub returns-then-not-floats_have_length-2 : goal.returns-then-not-floats_have_length-2
-returns-then-not-floats_have_length-2 c = search (chain, answers) depth 20 fits 5000
+pub returns-then-not-has_length-2 : goal.returns-then-not-has_length-2
+returns-then-not-has_length-2 c = search (chain, answers) depth 20 fits 5000
 
 pub returns-then-not-colour_count : goal.returns-then-not-colour_count
 returns-then-not-colour_count c = search (chain, answers) depth 20 fits 5000
