@@ -45,19 +45,19 @@ pub fn offset_fits(offset: Offset) -> bool
 pub fn clip_to(z: i64) -> usize
     ensures { result ≡ clip z }
 {
-    if z < 0 { 0 } else { z as usize }
+    usize::try_from(z).unwrap_or(0)
 }
 
 pub fn least(a: usize, b: usize) -> usize
     ensures { result ≡ min a b }
 {
-    if a <= b { a } else { b }
+    a.min(b)
 }
 
 fn index_below(n: usize, z: i64) -> bool
     ensures { result ≡ index_below n z }
 {
-    if z < 0 { false } else { (z as usize) < n }
+    usize::try_from(z).is_ok_and(|index| index < n)
 }
 
 // Index = coordinate + offset, along one side. It may lie off the board.
