@@ -1,17 +1,19 @@
 -- Laws of reading a text, as the code meets them: what each exit of a step answers, what one byte more makes of the count and of the
 -- store, and that two bytes make at most one number.
 -- Assumes nothing.
-use Prim.Native.Nat.{ℕ, suc, ◌+◌, ◌<◌, ◌≤◌}
+use Prim.Native.Nat.{ℕ, zero, suc, ◌+◌, ◌<◌, ◌≤◌}
 use mathlib.Core.Path.{◌≡◌, refl, sym, ◌∙◌, ap, subst}
-use mathlib.Core.Bool.{Bool, true, false, ◌&&◌}
+use mathlib.Core.Bool.{Bool, true, false, ◌&&◌, ◌||◌, or_comm, or_assoc}
 use mathlib.Core.List.{List, [], ◌∷◌, ◌++◌}
 use native.Mathlib.Numerals.{add-one}
 use native.Mathlib.Omega.{arith}
 use lib.Dec.{leb}
 use lib.ListN.{length, get_or, set, take, drop, length-append, take-append-drop}
 use lib.Seq.{take-suc, take_all, drop-cons, append_snoc, set_at}
+use Rattle.std.specs.Prelude.{Option, Some, None, Ok, Err}
 use borrow.Author.Tests.{lt-leb, le-leb}
-use Rattle.base.specs.Counting.{pick, within}
+use Rattle.std.specs.List.{list_any}
+use Rattle.base.specs.Counting.{pick, some, within}
 use Rattle.base.specs.Refusal.{Gives}
 use Rattle.base.specs.Tables.{fold}
 use Rattle.base.proofs.Bools.{and_both, and-no-left, and-no-right, by-test}
@@ -20,15 +22,24 @@ use Rattle.base.proofs.Tabled.{fold-append, fold-last}
 use Rattle.listing_numbers.specs.Decimals.{Reading, spoilt, between, inside, is_blank, with_digit, grows, grown, after, bad, numbers, ended, reading, numbers_in, parsed_into, over, numbers_stored}
 use Rattle.listing_numbers.specs.States.{state_of, grown_state, next_state, bytes_read, found_by, held, entries, begun, Fits}
 use Rattle.listing_numbers.specs.Input.{max_input, max_number, input_blanks, input_text}
-use Rattle.listing_numbers.specs.declared.Parsed.TheVariants as Parsed·
-use Rattle.listing_numbers.specs.declared.Found.{Found}
-use Rattle.listing_numbers.specs.declared.Found.TheVariants as Found·
+use Rattle.listing_numbers.specs.declared.ParseError.TheVariants as ParseError·
 use Rattle.listing_numbers.specs.declared.State.{State}
 use Rattle.listing_numbers.specs.declared.State.TheVariants.{Spoilt, Between, Inside}
 
 ap-pick : {A B : Type 0} (f : A → B) (t : Bool) (x y : A) → f (pick t x y) ≡ pick t (f x) (f y)
 ap-pick f true x y = refl
 ap-pick f false x y = refl
+
+-- what is asked of each element of a list, by the library's test and by its entries
+some-front : (n : ℕ) (f : ℕ → Bool) → some (suc n) f ≡ (f 0 || some n (λ k. f (suc k)))
+unfolding some
+some-front zero f = or_comm false (f 0)
+some-front (suc n) f = ap (λ (b : Bool). b || f (suc n)) (some-front n f) ∙ or_assoc (f 0) (some n (λ k. f (suc k))) (f (suc n))
+
+pub any-is : (t : ℕ → Bool) (l : List ℕ) → list_any t l ≡ some (length l) (λ k. t (get_or l k 0))
+unfolding some
+any-is t [] = refl
+any-is t (b ∷ l) = ap (λ (r : Bool). t b || r) (any-is t l) ∙ sym (some-front (length l) (λ k. t (get_or (b ∷ l) k 0)))
 
 -- ---- a digit more
 module _ (limit k n b : ℕ) where
@@ -252,28 +263,28 @@ module _ (blanks : List ℕ) (limit : ℕ) where
   kept-all {i} text d k h = k.holds ∙ ap (λ (l : List ℕ). over (begun (reading blanks limit l)) d) (take_all i text h)
 
 -- ---- the call
-found-numbers : (r : Reading) (n : ℕ) → Found·.Numbers n ≡ found_by (state_of r) → (ended r ≡ numbers (begun r)) × (n ≡ length (begun r))
+found-numbers : (r : Reading) (n : ℕ) → Some n ≡ found_by (state_of r) → (ended r ≡ numbers (begun r)) × (n ≡ length (begun r))
 found-numbers spoilt n e = absurd (let z : ◌≡◌ {A = ℕ} 0 1 = cc in omega arith)
 found-numbers (between ns) n e = (refl, cc)
 found-numbers (inside ns m) n e = let k : n ≡ length ns + 1 = cc in (refl, k ∙ sym (length-append ns (m ∷ [])))
 
-found-fits : (r : Reading) (n room : ℕ) → Found·.Numbers n ≡ found_by (state_of r) → n ≤ room → Fits room r
+found-fits : (r : Reading) (n room : ℕ) → Some n ≡ found_by (state_of r) → n ≤ room → Fits room r
 found-fits spoilt n room e h = absurd (let z : ◌≡◌ {A = ℕ} 0 1 = cc in omega arith)
 found-fits (between ns) n room e h = let k : n ≡ length ns = cc in omega arith
 found-fits (inside ns m) n room e h = let k : n ≡ length ns + 1 = cc in omega arith
 
-found-other : (r : Reading) → Found·.Other ≡ found_by (state_of r) → ended r ≡ bad
+found-other : (r : Reading) → None ≡ found_by (state_of r) → ended r ≡ bad
 found-other spoilt e = refl
 found-other (between ns) e = absurd (let z : ◌≡◌ {A = ℕ} 0 1 = cc in omega arith)
 found-other (inside ns n) e = absurd (let z : ◌≡◌ {A = ℕ} 0 1 = cc in omega arith)
 
-module _ (blanks : List ℕ) (limit : ℕ) (text d : List ℕ) (f : Found) (is : f ≡ found_by (state_of (reading blanks limit text))) where
-  pub parse-bad : f ≡ Found·.Other → Gives (parsed_into (length d) (numbers_in blanks limit text)) (numbers_stored (numbers_in blanks limit text) d) Parsed·.Bad d
+module _ (blanks : List ℕ) (limit : ℕ) (text d : List ℕ) (f : Option ℕ) (is : f ≡ found_by (state_of (reading blanks limit text))) where
+  pub parse-bad : f ≡ None → Gives (parsed_into (length d) (numbers_in blanks limit text)) (numbers_stored (numbers_in blanks limit text) d) (Err ParseError·.Bad) d
   unfolding numbers_in
   parse-bad e = rw (found-other (reading blanks limit text) (sym e ∙ is)) (record { answered = refl; leaves = refl })
 
-  module _ (n : ℕ) (e : f ≡ Found·.Numbers n) where
-    pub parse-full : length d < n → Gives (parsed_into (length d) (numbers_in blanks limit text)) (numbers_stored (numbers_in blanks limit text) d) Parsed·.Full d
+  module _ (n : ℕ) (e : f ≡ Some n) where
+    pub parse-full : length d < n → Gives (parsed_into (length d) (numbers_in blanks limit text)) (numbers_stored (numbers_in blanks limit text) d) (Err ParseError·.Full) d
     unfolding numbers_in
     parse-full h =
         let w = found-numbers (reading blanks limit text) n (sym e ∙ is) in
@@ -284,12 +295,12 @@ module _ (blanks : List ℕ) (limit : ℕ) (text d : List ℕ) (f : Found) (is :
     parse-fits h = found-fits (reading blanks limit text) n (length d) (sym e ∙ is) h
 
     pub parse-done : (x : List ℕ) → n ≤ length d → x ≡ over (begun (reading blanks limit text)) d
-        → Gives (parsed_into (length d) (numbers_in blanks limit text)) (numbers_stored (numbers_in blanks limit text) d) (Parsed·.Numbers n) x
+        → Gives (parsed_into (length d) (numbers_in blanks limit text)) (numbers_stored (numbers_in blanks limit text) d) (Ok n) x
     unfolding numbers_in
     parse-done x h q =
         let w = found-numbers (reading blanks limit text) n (sym e ∙ is) in
         let t : leb (length (begun (reading blanks limit text))) (length d) ≡ true = le-leb (length (begun (reading blanks limit text))) (length d) (omega (arith, w.1)) in
-        rw (w.0, t) (record { answered = ap Parsed·.Numbers w.1; leaves = q })
+        rw (w.0, t) (record { answered = ap Ok w.1; leaves = q })
 
 -- ---- the listing program's input
 pub input-long : (l : List ℕ) → max_input < length l → input_text l ≡ bad

@@ -1,11 +1,11 @@
 -- Decimal numbers parted by white space: what a text of bytes makes. Which bytes are white space and how large a number may be is for
 -- the caller to say.
-use Rattle.std.specs.Prelude.{ℕ, ◌+◌, ◌-◌, ◌*◌, Bool, ◌&&◌, List, [], ◌∷◌, ◌++◌, leb, eqb, length, get_or, drop}
+use Rattle.std.specs.Prelude.{ℕ, ◌+◌, ◌-◌, ◌*◌, Bool, ◌&&◌, List, [], ◌∷◌, ◌++◌, Result, Ok, Err, leb, eqb, length, get_or, drop}
 use Rattle.base.specs.Counting.{pick, some, within}
 use Rattle.base.specs.Tables.{fold}
 use Rattle.base.specs.Refusal.{Gives}
-use Rattle.listing_numbers.specs.declared.Parsed.{Parsed}
-use Rattle.listing_numbers.specs.declared.Parsed.TheVariants as Parsed·
+use Rattle.listing_numbers.specs.declared.ParseError.{ParseError}
+use Rattle.listing_numbers.specs.declared.ParseError.TheVariants as ParseError·
 
 -- what has been read: the numbers that are ended and, inside one, what its digits make so far
 pub data Reading : Type 0 where
@@ -55,9 +55,9 @@ numbers_in blanks limit text = ended (reading blanks limit text)
 
 -- ---- the call: the numbers stand at the start of a lent store, if it has room for all; else it is left as it was
 
-abbrev pub parsed_into : ℕ → Text → Parsed
-parsed_into room bad = Parsed·.Bad
-parsed_into room (numbers ns) = pick (leb (length ns) room) (Parsed·.Numbers (length ns)) Parsed·.Full
+abbrev pub parsed_into : ℕ → Text → Result ℕ ParseError
+parsed_into room bad = Err ParseError·.Bad
+parsed_into room (numbers ns) = pick (leb (length ns) room) (Ok (length ns)) (Err ParseError·.Full)
 
 unfoldable pub over : List ℕ → List ℕ → List ℕ
 over ns store = ns ++ drop (length ns) store
@@ -66,5 +66,5 @@ abbrev pub numbers_stored : Text → List ℕ → List ℕ
 numbers_stored bad store = store
 numbers_stored (numbers ns) store = pick (leb (length ns) (length store)) (over ns store) store
 
-abbrev pub Parses : Text → List ℕ → Parsed → List ℕ → Type 0
+abbrev pub Parses : Text → List ℕ → Result ℕ ParseError → List ℕ → Type 0
 Parses text store = Gives (parsed_into (length store) text) (numbers_stored text store)

@@ -1,9 +1,7 @@
 -- How the code holds a reading: how many numbers are ended, and not the numbers themselves.
-use Rattle.std.specs.Prelude.{ℕ, ◌+◌, ◌<◌, ◌≤◌, List, [], ◌∷◌, ◌++◌, length, set}
+use Rattle.std.specs.Prelude.{ℕ, ◌+◌, ◌<◌, ◌≤◌, List, [], ◌∷◌, ◌++◌, Option, Some, None, length, set}
 use Rattle.base.specs.Counting.{pick}
 use Rattle.listing_numbers.specs.Decimals.{Reading, spoilt, between, inside, is_blank, with_digit, grows}
-use Rattle.listing_numbers.specs.declared.Found.{Found}
-use Rattle.listing_numbers.specs.declared.Found.TheVariants as Found·
 use Rattle.listing_numbers.specs.declared.State.{State}
 use Rattle.listing_numbers.specs.declared.State.TheVariants.{Spoilt, Between, Inside}
 
@@ -26,10 +24,10 @@ bytes_read Spoilt = 0
 bytes_read (Between k) = k + k
 bytes_read (Inside k n) = k + k + 1
 
-abbrev pub found_by : State → Found
-found_by Spoilt = Found·.Other
-found_by (Between k) = Found·.Numbers k
-found_by (Inside k n) = Found·.Numbers (k + 1)
+abbrev pub found_by : State → Option ℕ
+found_by Spoilt = None
+found_by (Between k) = Some k
+found_by (Inside k n) = Some (k + 1)
 
 -- a number is stored with each of its digits
 abbrev pub held : State → List ℕ → List ℕ

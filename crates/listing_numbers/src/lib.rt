@@ -10,10 +10,9 @@ pub const MAX_INPUT: usize = 16_384;
 
 pub const MAX_NUMBER: u32 = 1_000_000;
 
-// So many numbers; another text; more numbers than the store has entries.
-#[derive(Clone, Copy)]
-pub enum Parsed {
-    Numbers(usize),
+// Why a text is not read: it is not numbers; or it has more than the store has entries.
+#[derive(Clone, Copy, Debug, PartialEq, Eq)]
+pub enum ParseError {
     Bad,
     Full,
 }
@@ -24,11 +23,4 @@ pub enum State {
     Spoilt,
     Between(usize),
     Inside(usize, u32),
-}
-
-// What a text is: so many numbers, or another one.
-#[derive(Clone, Copy)]
-pub enum Found {
-    Numbers(usize),
-    Other,
 }

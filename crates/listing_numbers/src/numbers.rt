@@ -5,19 +5,12 @@ ghost use Rattle.listing_numbers.specs.Decimals.{is_blank, with_digit, reading, 
 ghost use Rattle.listing_numbers.specs.States.{grown_state, next_state, bytes_read, state_of, found_by, held, entries, begun, Fits};
 ghost use Rattle.listing_numbers.specs.Input.{input_text};
 
-use crate::{Found, MAX_INPUT, MAX_NUMBER, Parsed, State};
+use crate::{MAX_INPUT, MAX_NUMBER, ParseError, State};
 
 fn is_blank(blanks: &[u8], b: u8) -> bool
     ensures { result ≡ is_blank blanks.now b }
 {
-    let mut k = 0;
-    while k < blanks.len() {
-        if blanks[k] == b {
-            return true;
-        }
-        k += 1;
-    }
-    false
+    blanks.contains(&b)
 }
 
 // The number n with the digit b after it, in 64 bits, since it is held against the limit only then.
@@ -25,24 +18,20 @@ fn with_digit(n: u32, b: u8) -> u64
     requires { 48 ≤ b }
     ensures { result ≡ with_digit n b }
 {
-    n as u64 * 10 + (b - 48) as u64
+    u64::from(n) * 10 + u64::from(b - b'0')
 }
 
 fn grown_by(limit: u32, k: usize, n: u32, b: u8) -> State
     ensures { result ≡ grown_state limit k n b }
 {
-    if b < 48 {
-        return State::Spoilt;
-    }
-    if 57 < b {
+    if !b.is_ascii_digit() {
         return State::Spoilt;
     }
     let next = with_digit(n, b);
-    if (limit as u64) < next {
+    if u64::from(limit) < next {
         return State::Spoilt;
     }
-    let number = next as u32;
-    State::Inside(k, number)
+    State::Inside(k, next as u32)
 }
 
 // One byte more.
@@ -67,20 +56,18 @@ fn after_byte(s: State, b: u8, blanks: &[u8], limit: u32) -> State
     }
 }
 
-// What a text is, with nothing stored.
-fn survey(text: &[u8], blanks: &[u8], limit: u32) -> Found
+// How many numbers a text is, if it is numbers, with nothing stored.
+fn survey(text: &[u8], blanks: &[u8], limit: u32) -> Option<usize>
     ensures { result ≡ found_by (state_of (reading blanks.now limit text.now)) }
 {
     let mut s = State::Between(0);
-    let mut i = 0;
-    while i < text.len() {
-        s = after_byte(s, text[i], blanks, limit);
-        i += 1;
+    for &b in text {
+        s = after_byte(s, b, blanks, limit);
     }
     match s {
-        State::Spoilt => Found::Other,
-        State::Between(k) => Found::Numbers(k),
-        State::Inside(k, _) => Found::Numbers(k + 1),
+        State::Spoilt => None,
+        State::Between(k) => Some(k),
+        State::Inside(k, _) => Some(k + 1),
     }
 }
 
@@ -88,12 +75,8 @@ fn hold(store: &mut [u32], s: State)
     requires { entries s ≤ length store.old }
     ensures { after store ≡ held s (before store) }
 {
-    match s {
-        State::Spoilt => {}
-        State::Between(_) => {}
-        State::Inside(k, n) => {
-            store[k] = n;
-        }
+    if let State::Inside(k, n) = s {
+        store[k] = n;
     }
 }
 
@@ -103,35 +86,33 @@ fn keep(store: &mut [u32], text: &[u8], blanks: &[u8], limit: u32)
     ensures { after store ≡ over (begun (reading blanks.now limit text.now)) (before store) }
 {
     let mut s = State::Between(0);
-    let mut i = 0;
-    while i < text.len() {
-        s = after_byte(s, text[i], blanks, limit);
+    for &b in text {
+        s = after_byte(s, b, blanks, limit);
         hold(store, s);
-        i += 1;
     }
 }
 
-// Reads the numbers of a text into the store; any other text, and one for which there is no room, leaves it as it was.
-pub fn parse(store: &mut [u32], text: &[u8], blanks: &[u8], limit: u32) -> Parsed
+// Reads the numbers of a text into the store, and answers how many they are; any other text, and one for which there is no room, leaves it
+// as it was.
+pub fn parse(store: &mut [u32], text: &[u8], blanks: &[u8], limit: u32) -> Result<usize, ParseError>
     ensures { Parses (numbers_in blanks.now limit text.now) (before store) result (after store) }
 {
-    let found = survey(text, blanks, limit);
-    let Found::Numbers(n) = found else {
-        return Parsed::Bad;
+    let Some(n) = survey(text, blanks, limit) else {
+        return Err(ParseError::Bad);
     };
     if store.len() < n {
-        return Parsed::Full;
+        return Err(ParseError::Full);
     }
     keep(store, text, blanks, limit);
-    Parsed::Numbers(n)
+    Ok(n)
 }
 
 // The listing program's input.
-pub fn read_input(store: &mut [u32], input: &[u8]) -> Parsed
+pub fn read_input(store: &mut [u32], input: &[u8]) -> Result<usize, ParseError>
     ensures { Parses (input_text input.now) (before store) result (after store) }
 {
     if MAX_INPUT < input.len() {
-        return Parsed::Bad;
+        return Err(ParseError::Bad);
     }
     parse(store, input, b" \n", MAX_NUMBER)
 }
