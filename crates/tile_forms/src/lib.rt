@@ -14,23 +14,14 @@ fn sample_cell(sample: &[u8], rows: usize, cols: usize, r: usize, c: usize) -> u
     requires { Sample sample.now rows cols }
     ensures { result ≡ sample_cell sample.now rows cols r c }
 {
-    if rows <= r {
-        return 0;
-    }
-    if cols <= c {
-        return 0;
-    }
-    sample[r * cols + c]
+    if r < rows && c < cols { sample[r * cols + c] } else { 0 }
 }
 
 // How many windows start along a side.
 fn starts_along(side: usize) -> usize
     ensures { result ≡ starts_along side }
 {
-    if side < TILE_SIDE {
-        return 1;
-    }
-    side - TILE_SIDE + 1
+    side.saturating_sub(TILE_SIDE) + 1
 }
 
 // The tile of the window that starts at (r, c).
@@ -45,10 +36,8 @@ fn window_tile(
     ensures { result ≡ window_tile sample.now rows cols r c }
 {
     let mut tile = [0u8; rules::TILE_CELLS];
-    let mut k = 0;
-    while k < rules::TILE_CELLS {
-        tile[k] = sample_cell(sample, rows, cols, r + k / TILE_SIDE, c + k % TILE_SIDE);
-        k += 1;
+    for (k, cell) in tile.iter_mut().enumerate() {
+        *cell = sample_cell(sample, rows, cols, r + k / TILE_SIDE, c + k % TILE_SIDE);
     }
     tile
 }
@@ -71,23 +60,17 @@ pub fn reflect(tile: [u8; rules::TILE_CELLS]) -> [u8; rules::TILE_CELLS]
     ]
 }
 
-// n successive rotations, at most three.
+// n successive rotations.
 fn rotate_times(n: usize, tile: [u8; rules::TILE_CELLS]) -> [u8; rules::TILE_CELLS]
     requires { n < 4 }
     ensures { result ≡ turned n tile }
 {
-    if n == 0 {
-        return tile;
+    match n {
+        0 => tile,
+        1 => rotate_90(tile),
+        2 => rotate_90(rotate_90(tile)),
+        _ => rotate_90(rotate_90(rotate_90(tile))),
     }
-    let rot90 = rotate_90(tile);
-    if n == 1 {
-        return rot90;
-    }
-    let rot180 = rotate_90(rot90);
-    if n == 2 {
-        return rot180;
-    }
-    rotate_90(rot180)
 }
 
 fn turns_of(rotations: bool) -> usize

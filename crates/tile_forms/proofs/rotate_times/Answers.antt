@@ -4,19 +4,20 @@ use native.Mathlib.Omega.{arith}
 use Rattle.rules.specs.Tiles.{rotated, turned}
 use Rattle.tile_forms.proofs.rotate_times.Goals as goal
 
-pub returns-then-n-eq0 : goal.returns-then-n-eq0
+pub returns-in-0 : goal.returns-in-0
 unfolding turned
-returns-then-n-eq0 c = rw c.if-n-eq0.true
+returns-in-0 c = rw c.in-0.is
 
-pub returns-then-n-eq1 : goal.returns-then-n-eq1
+pub returns-in-1 : goal.returns-in-1
 unfolding turned
-returns-then-n-eq1 c = rw c.if-n-eq1.true c.before.rotate_90-rot90.ensures
+returns-in-1 c = rw c.in-1.is c.rotate_90.ensures
 
-pub returns-then-n-eq2 : goal.returns-then-n-eq2
+pub returns-in-2 : goal.returns-in-2
 unfolding turned
-returns-then-n-eq2 c = rw c.if-n-eq2.true (c.before.rotate_90-rot180.ensures ∙ ap rotated c.before.before.before.rotate_90-rot90.ensures)
+returns-in-2 c = rw c.in-2.is (c.rotate_90-in-2-2.ensures ∙ ap rotated c.rotate_90-in-2.ensures)
 
-pub returns : goal.returns
+pub returns-in_default : goal.returns-in_default
 unfolding turned
-returns c = let three : c.before.before.before.before.before.before.args.n ≡ 3 = omega arith in
-    rw three (c.rotate_90.ensures ∙ ap rotated (c.before.before.rotate_90-rot180.ensures ∙ ap rotated c.before.before.before.before.rotate_90-rot90.ensures))
+returns-in_default c =
+    let three : c.args.n ≡ 3 = omega arith in
+    rw three (c.rotate_90-in_default-3.ensures ∙ ap rotated (c.rotate_90-in_default-2.ensures ∙ ap rotated c.rotate_90-in_default.ensures))
