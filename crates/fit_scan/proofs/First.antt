@@ -16,7 +16,8 @@ use Rattle.base.specs.Refusal.{refusal}
 use Rattle.base.proofs.Bools.{never, and_left, and_right}
 use Rattle.base.proofs.Numbers.{cell-is, cell-lt, row_lt, col-lt, rows_apart}
 use Rattle.base.proofs.Counted.{first_holds, first-before}
-use Rattle.rules.specs.Answers.{dead_end_answer}
+use Rattle.std.specs.Prelude.{Some, None, Ok}
+use Rattle.rules.specs.Answers.{answered, if_there}
 use Rattle.rules.specs.Grid.{Kind, entry_of, cell_with}
 use Rattle.rules.specs.Forced.{listed_at, dead_at, scan_checks, dead_end}
 use Rattle.rules.specs.declared.Cell.{Cell}
@@ -39,12 +40,12 @@ some-cols k rows zero h = absurd (let z : rows * 0 ≡ 0 = mul-zero rows in omeg
 some-cols k rows (suc n) h = omega arith
 
 -- what an answer tells
-at_of : (n : ℕ) (b : Bool) (c d : Cell) → dead_end_answer n b c ≡ At d → (b ≡ true) × (c ≡ d)
+at_of : (n : ℕ) (b : Bool) (c d : Cell) → answered n (if_there b c) ≡ Ok (Some d) → (b ≡ true) × (c ≡ d)
 at_of zero true c d e = (refl, cc)
 at_of zero false c d e = absurd (let z : ◌≡◌ {A = ℕ} 0 1 = cc in omega arith)
 at_of (suc n) b c d e = absurd (let z : ◌≡◌ {A = ℕ} 0 1 = cc in omega arith)
 
-nowhere-of : (n : ℕ) (b : Bool) (c : Cell) → dead_end_answer n b c ≡ Nowhere → b ≡ false
+nowhere-of : (n : ℕ) (b : Bool) (c : Cell) → answered n (if_there b c) ≡ Ok None → b ≡ false
 nowhere-of zero true c e = absurd (let z : ◌≡◌ {A = ℕ} 0 1 = cc in omega arith)
 nowhere-of zero false c e = refl
 nowhere-of (suc n) b c e = absurd (let z : ◌≡◌ {A = ℕ} 0 1 = cc in omega arith)
@@ -82,7 +83,7 @@ module _ (kind : Kind) (pieces weights : List ℕ) (rows cols : ℕ) (tiles : Li
   abbrev found : ℕ
   found = first (rows * cols) dead
 
-  pub found_first : (cell : Cell) → dead_end kind pieces weights rows cols tiles count ≡ At cell → FirstOf cell
+  pub found_first : (cell : Cell) → dead_end kind pieces weights rows cols tiles count ≡ Ok (Some cell) → FirstOf cell
   unfolding dead_end
   found_first cell e =
       let a = at_of (refusal (scan_checks pieces weights rows cols tiles count)) (ltb found (rows * cols)) (cell_with cols found) cell e in
@@ -97,7 +98,7 @@ module _ (kind : Kind) (pieces weights : List ℕ) (rows cols : ℕ) (tiles : Li
             never _ (qualified i q) (first-before dead (rows * cols) (entry_of cols i) (omega (arith, cell-is found cols)));
       })
 
-  pub found_nowhere : dead_end kind pieces weights rows cols tiles count ≡ Nowhere → (i : Cell) → CellOn rows cols i.0 i.1 → Qualifies i → ⊥
+  pub found_nowhere : dead_end kind pieces weights rows cols tiles count ≡ Ok None → (i : Cell) → CellOn rows cols i.0 i.1 → Qualifies i → ⊥
   unfolding dead_end
   found_nowhere e i g q =
       let none = nowhere-of (refusal (scan_checks pieces weights rows cols tiles count)) (ltb found (rows * cols)) (cell_with cols found) e in

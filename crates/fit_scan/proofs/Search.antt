@@ -3,6 +3,7 @@
 --     no_row, row-start, cell-done, row_done, rows-done    the cells that the loops passed
 --     dead-laid, dead-light, dead-listed    whether a cell qualifies
 -- Assumes nothing.
+use Rattle.std.specs.Prelude.{Some, None}
 use Prim.Native.Nat.{ℕ, ◌+◌, ◌*◌, ◌<◌, ◌≤◌}
 use mathlib.Core.Path.{◌≡◌, sym, ◌∙◌, ap}
 use mathlib.Core.Bool.{Bool, true, false, not}
@@ -26,13 +27,13 @@ none_of test n e k l = by-test (test k) (λ t. never (some n test) (some_is test
 
 module _ (n cols : ℕ) (test : ℕ → Bool) where
   pub found_at : (cell : Cell) → cell.1 < cols → entry_of cols cell < n → some (entry_of cols cell) test ≡ false → test (entry_of cols cell) ≡ true
-      → At cell ≡ found_by n cols test
+      → Some cell ≡ found_by n cols test
   unfolding found_by
   found_at cell l in-plane e t =
       let f : first n test ≡ entry_of cols cell = first-is test n (entry_of cols cell) in-plane t (none_of test (entry_of cols cell) e) in
       rw (f, lt-ltb (entry_of cols cell) n in-plane, row_of cell.0 {c = cell.1} {cols = cols} l, col-of cell.0 {c = cell.1} {cols = cols} l)
 
-  pub found_none : some n test ≡ false → Nowhere ≡ found_by n cols test
+  pub found_none : some n test ≡ false → None ≡ found_by n cols test
   unfolding found_by
   found_none e =
       let f : first n test ≡ n = first-none test n (none_of test n e) in

@@ -6,12 +6,18 @@ ghost use Rattle.rules.specs.Answers.{checked};
 ghost use Rattle.rules.specs.Grid.{entry_of, flat};
 ghost use Rattle.rules.specs.Forced.{dead_at, scan_lengths, scan_checks, dead_end};
 ghost use Rattle.fit_pattern.specs.Ready.{CellOn};
-ghost use Rattle.fit_scan.specs.Scanned.{Scannable, scanned, cell_checks};
+ghost use Rattle.fit_scan.specs.Scanned.{Scannable, scanned};
 
 use rules::{Cell, Refusal};
 
 // The checks of the sides and lengths.
-fn check_lengths(pieces: &[u32], weights: &[u32], rows: usize, cols: usize, tiles: &[u8]) -> Result<(), Refusal>
+fn check_lengths(
+    pieces: &[u32],
+    weights: &[u32],
+    rows: usize,
+    cols: usize,
+    tiles: &[u8],
+) -> Result<(), Refusal>
     ensures { result ≡ checked (scan_lengths pieces.now weights.now rows cols tiles.now) }
 {
     if !check_sizes::board_sides(rows, cols) {
@@ -30,17 +36,6 @@ fn check_lengths(pieces: &[u32], weights: &[u32], rows: usize, cols: usize, tile
     Ok(())
 }
 
-// The checks of the colour count and of what the planes hold.
-fn check_cells(pieces: &[u32], weights: &[u32], tiles: &[u8], count: u32) -> Result<(), Refusal>
-    ensures { result ≡ checked (cell_checks pieces.now weights.now tiles.now count) }
-{
-    check_contents::check_colours(tiles, count, pieces)?;
-    if !check_contents::no_word_above(weights, rules::MAX_WEIGHT) {
-        return Err(Refusal::Cell);
-    }
-    Ok(())
-}
-
 // The checks of the scan's input.
 pub fn check_scan(
     pieces: &[u32],
@@ -53,7 +48,11 @@ pub fn check_scan(
     ensures { result ≡ checked (scan_checks pieces.now weights.now rows cols tiles.now count) }
 {
     check_lengths(pieces, weights, rows, cols, tiles)?;
-    check_cells(pieces, weights, tiles, count)
+    check_contents::check_colours(tiles, count, pieces)?;
+    if !check_contents::no_word_above(weights, rules::MAX_WEIGHT) {
+        return Err(Refusal::Cell);
+    }
+    Ok(())
 }
 
 // Whether the cell is bare, has weight above 1 and lists no colour. The checks are made, so the listing is never a refusal; the `else` that
@@ -78,14 +77,13 @@ fn is_dead_end(
     if weights[at] <= 1 {
         return false;
     }
-    let Ok(set) = fit_windows::viable_tiles_at(pieces, rows, cols, tiles, count, cell)
-    else {
+    let Ok(set) = fit_windows::viable_tiles_at(pieces, rows, cols, tiles, count, cell) else {
         return false;
     };
     bitset_colours::no_colour(set.bits)
 }
 
-// The dead end, for calls that have made the checks.
+// The dead end, if there is one, for calls that have made the checks.
 pub fn first_dead_end(
     pieces: &[u32],
     weights: &[u32],
@@ -93,16 +91,16 @@ pub fn first_dead_end(
     cols: usize,
     tiles: &[u8],
     count: u32,
-) -> Result<Option<Cell>, Refusal>
+) -> Option<Cell>
     requires { Scannable pieces.now weights.now rows cols tiles.now count }
     ensures { result ≡ scanned flat pieces.now weights.now rows cols tiles.now count }
 {
-    let mut found = Ok(None);
+    let mut found = None;
     'scan: for row in 0..rows {
         for col in 0..cols {
             let cell = Cell(row, col);
             if is_dead_end(pieces, weights, rows, cols, tiles, count, cell) {
-                found = Ok(Some(cell));
+                found = Some(cell);
                 break 'scan;
             }
         }
@@ -122,5 +120,5 @@ pub fn check_for_contradiction(
     ensures { result ≡ dead_end flat pieces.now weights.now rows cols tiles.now count }
 {
     check_scan(pieces, weights, rows, cols, tiles, count)?;
-    first_dead_end(pieces, weights, rows, cols, tiles, count)
+    Ok(first_dead_end(pieces, weights, rows, cols, tiles, count))
 }

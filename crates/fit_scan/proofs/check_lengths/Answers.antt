@@ -11,11 +11,11 @@ returns-then-not-board_sides c = search (chain, answers) depth 20 fits 5000
 pub cells_of-cells-requires : goal.cells_of-cells-requires
 cells_of-cells-requires c = sym c.board_sides.ensures ∙ c.if-not-board_sides.false
 
-pub returns-then-not-words_have_length : goal.returns-then-not-words_have_length
-returns-then-not-words_have_length c = search (chain, answers, length-as) depth 20 fits 5000
+pub returns-then-not-has_length : goal.returns-then-not-has_length
+returns-then-not-has_length c = search (chain, answers, length-as) depth 20 fits 5000
 
-pub returns-then-not-words_have_length-2 : goal.returns-then-not-words_have_length-2
-returns-then-not-words_have_length-2 c = search (chain, answers, length-as) depth 20 fits 5000
+pub returns-then-not-has_length-2 : goal.returns-then-not-has_length-2
+returns-then-not-has_length-2 c = search (chain, answers, length-as) depth 20 fits 5000
 
 pub returns-then-not-whole_tiles : goal.returns-then-not-whole_tiles
 returns-then-not-whole_tiles c = search (chain, answers, length-as) depth 20 fits 5000

@@ -1,10 +1,20 @@
--- `fit_scan::check_scan` meets its contract: the checks of the lengths and then those of the cells are the scan's. Assumes nothing.
+-- `fit_scan::check_scan` meets its contract: the checks of the lengths, then of the colours, then of the weights. Assumes nothing.
 use Rattle.base.proofs.Chain.{chain}
-use Rattle.rules.proofs.Answered.{answers}
+use Rattle.rules.proofs.Answered.{answers, handed_to, passed}
 use Rattle.fit_scan.proofs.check_scan.Goals as goal
 
-pub returns-then-refused-ne0 : goal.returns-then-refused-ne0
-returns-then-refused-ne0 c = search (chain, answers) depth 20 fits 5000
+pub returns-in_err-check_lengths : goal.returns-in_err-check_lengths
+returns-in_err-check_lengths c = handed_to c.from_residual.ensures (search (chain, answers, c.in_err-check_lengths.was) depth 20 fits 5000)
+
+pub returns-in_err-check_colours : goal.returns-in_err-check_colours
+returns-in_err-check_colours c =
+    handed_to c.from_residual-in_err-check_colours.ensures
+    (search (chain, answers, passed _ _ c.check_lengths.ensures c.in_ok-check_lengths.was, c.in_err-check_colours.was) depth 20 fits 5000)
+
+pub returns-then-not-no_word_above : goal.returns-then-not-no_word_above
+returns-then-not-no_word_above c =
+    search (chain, answers, passed _ _ c.check_lengths.ensures c.in_ok-check_lengths.was, passed _ _ c.check_colours.ensures c.in_ok-check_colours.was) depth 20 fits 5000
 
 pub returns : goal.returns
-returns c = search (chain, answers) depth 20 fits 5000
+returns c =
+    search (chain, answers, passed _ _ c.check_lengths.ensures c.in_ok-check_lengths.was, passed _ _ c.check_colours.ensures c.in_ok-check_colours.was) depth 20 fits 5000

@@ -45,4 +45,4 @@ returns-in_default c = never-refused _ _ _ c.viable_tiles_at.ensures c.in_defaul
 pub returns : goal.returns
 returns c =
     dead-listed _ _ _ _ _ _ c.if-pieces-at-gt-BARE_PIECE.false c.if-weights-at-le1.false
-    (listing-says (λ l. eqb (length l) 0) _ _ _ _ c.in-Colours.is c.viable_tiles_at.ensures c.no_colour.ensures)
+    (listing-says (λ l. eqb (length l) 0) _ _ _ _ c.in-Ok.is c.viable_tiles_at.ensures c.no_colour.ensures)
