@@ -1,7 +1,10 @@
 -- Two results that meet the contract of a public call coincide; of a call on a queue that is lent for change, the answers and what the
 -- queue holds then.
 -- Assumes nothing.
+use Prim.Native.Nat.{ℕ}
 use mathlib.Core.Path.{◌≡◌}
+use mathlib.Core.Bool.{Bool}
+use Rattle.std.specs.Prelude.{Option}
 use mathlib.Core.List.{[]}
 use Rattle.base.proofs.Chain.{coincide, gives-coincide}
 use Rattle.rules.specs.Forced.{queue_of, grown_by, taken_from, queue_empty, queue_length}

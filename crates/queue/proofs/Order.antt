@@ -8,7 +8,8 @@ use mathlib.Core.List.{List, [], ◌∷◌, ◌++◌, append-nil, append_assoc}
 use lib.ListN.{drop}
 use Rattle.base.specs.Refusal.{refusal}
 use Rattle.base.proofs.Bools.{by-test, and_left, and_right, and_both, not-is-true}
-use Rattle.rules.specs.Answers.{next_answer}
+use Rattle.std.specs.Prelude.{Ok}
+use Rattle.rules.specs.Answers.{next_of}
 use Rattle.rules.specs.Forced.{queued, offered, queue_of, is_queued, with_positions, queue_checks, add_checks, taken_from, grown_by}
 use Rattle.rules.specs.declared.ForcedPosition.{ForcedPosition}
 use Rattle.rules.specs.declared.ForcedPositions.{ForcedPositions}
@@ -47,7 +48,7 @@ once l (e ∷ more) h =
     (λ k. rw (with-new l e k) (once (l ++ (e ∷ [])) more (twice-last [] l e h k))))
 
 -- one call: what was queued, and then what comes in, is what goes out, and then what is left
-first_out : (l : List ForcedPosition) → l ++ [] ≡ position_in (next_answer 0 l) ++ drop 1 l
+first_out : (l : List ForcedPosition) → l ++ [] ≡ position_in (Ok (next_of l)) ++ drop 1 l
 first_out [] = refl
 first_out (e ∷ l) = append-nil (e ∷ l)
 
@@ -56,7 +57,7 @@ taking-keeps : (q : ForcedPipeline) (n : ℕ) → n ≡ refusal (queue_checks q)
 unfolding comes_in goes_out queue_left taken_from
 taking-keeps q zero e =
     rw (sym e)
-    (first_out (queued q) ∙ ap (λ (l : List ForcedPosition). position_in (next_answer 0 (queued q)) ++ l) (sym (queued-of (drop 1 (queued q)))))
+    (first_out (queued q) ∙ ap (λ (l : List ForcedPosition). position_in (Ok (next_of (queued q))) ++ l) (sym (queued-of (drop 1 (queued q)))))
 taking-keeps q (suc n) e = rw (sym e) (append-nil (queued q))
 
 adding-keeps : (q : ForcedPipeline) (p : ForcedPositions) (n : ℕ) → n ≡ refusal (add_checks q p)

@@ -1,4 +1,5 @@
 -- The promises of the two calls on a queue that is lent for change: the answer, and the queue that is left.
+use Rattle.std.specs.Prelude.{Option}
 use Rattle.base.specs.Refusal.{Gives}
 use Rattle.rules.specs.Forced.{grown_by, taken_from}
 use Rattle.rules.specs.declared.ForcedPositions.{ForcedPositions}

@@ -1,5 +1,5 @@
 -- Runs of calls on one queue, for the statement that it is first in, first out: what goes in, what comes out, what is left.
-use Rattle.std.specs.Prelude.{Bool, true, not, ◌&&◌, List, [], ◌∷◌, ◌++◌}
+use Rattle.std.specs.Prelude.{Option, Some, None, Ok, Err, Bool, true, not, ◌&&◌, List, [], ◌∷◌, ◌++◌}
 use Rattle.base.specs.Counting.{pick}
 use Rattle.base.specs.Refusal.{refusal, unless_refused}
 use Rattle.rules.specs.Forced.{queued, offered, is_queued, add_checks, grown_by, taken_from}
@@ -31,9 +31,9 @@ comes_in q (adding p) = unless_refused (refusal (add_checks q p)) (new_ones (que
 comes_in q taking = []
 
 abbrev pub position_in : Answer (Option ForcedPosition) → List ForcedPosition
-position_in (Taken e) = e ∷ []
-position_in Nothing = []
-position_in (Refused n) = []
+position_in (Ok (Some e)) = e ∷ []
+position_in (Ok None) = []
+position_in (Err r) = []
 
 unfoldable pub goes_out : ForcedPipeline → QueueCall → List ForcedPosition
 goes_out q (adding p) = []
