@@ -13,6 +13,7 @@ use lib.ListN.{length, get_or}
 use lib.Ieee.{Float, nan, ne, lt, le, eq, of_bits}
 use lib.Ieee.Scale.{finite}
 use borrow.Author.Tests.{ltb-true}
+use Rattle.std.specs.Prelude.{Ok}
 use Rattle.base.specs.Counting.{pick}
 use Rattle.base.specs.Tables.{tab}
 use Rattle.base.proofs.Bools.{and_left, and_right, by-test}
@@ -87,7 +88,7 @@ module _ (plane : List Float) (rows cols count : ℕ) (b : Block) (w : World) (o
     changed-numbers f h = all-tab no_nan (length plane) _ (λ q l. h (get_or plane q nan) _ _ _ (old-finite q l) (colour q l))
 
   -- a product step that was not refused leaves numbers and infinities
-  pub product-numbers : {l : List Float} → Multiplies rows cols count b w o k plane Done l → all_are no_nan l ≡ true
+  pub product-numbers : {l : List Float} → Multiplies rows cols count b w o k plane (Ok tt) l → all_are no_nan l ≡ true
   unfolding multiplied
   product-numbers done =
       let d = was-written (influence_checks plane rows cols count b w o k) (multiplied rows cols b w o k plane) plane done in
@@ -95,7 +96,7 @@ module _ (plane : List Float) (rows cols count : ℕ) (b : Block) (w : World) (o
       subst (λ (l : List Float). all_are no_nan l ≡ true) (sym d.1) (changed-numbers s _ (product-number s))
 
   -- and so does its reverse
-  pub quotient-numbers : {l : List Float} → Divides rows cols count b w o k plane Done l → all_are no_nan l ≡ true
+  pub quotient-numbers : {l : List Float} → Divides rows cols count b w o k plane (Ok tt) l → all_are no_nan l ≡ true
   unfolding divided
   quotient-numbers done =
       let d = was-written (influence_checks plane rows cols count b w o k) (divided rows cols b w o k plane) plane done in
@@ -141,7 +142,7 @@ module _ (plane : List Float) (rows cols count : ℕ) (w : World) (o : Offset) (
       rw e (all-at is_number plane n.numbers at (subst (λ (m : ℕ). at < m) (sym n.fits.long) (cell-lt h (entry-below rows cols w o e)))))
       (λ e. rw e zero_number)
 
-  pub normalised-numbers : {l : List Float} → Normalises plane rows cols count w o out Done l → all_are no_nan l ≡ true
+  pub normalised-numbers : {l : List Float} → Normalises plane rows cols count w o out (Ok tt) l → all_are no_nan l ≡ true
   unfolding probabilities_at
   normalised-numbers done =
       let d = was-written (normalise_checks plane rows cols count w o out) (normalised (probabilities_at plane rows cols count w o)) out done in

@@ -2,7 +2,7 @@
 -- Assumes nothing.
 use Prim.Native.Nat.{ℕ, ◌+◌, ◌*◌, ◌≤◌, min}
 use mathlib.Core.Path.{◌≡◌, refl}
-use mathlib.Core.Bool.{Bool, true, false}
+use mathlib.Core.Bool.{true}
 use mathlib.Core.List.{List}
 use native.Mathlib.Nat.{mul-le-mul_right}
 use native.Mathlib.Omega.{arith}
@@ -10,21 +10,20 @@ use lib.Ieee.{Float}
 use Rattle.base.specs.Regions.{RegionFits}
 use Rattle.rules.specs.Tests.{board_sides}
 use Rattle.rules.specs.Places.{cell_of}
-use Rattle.rules.specs.Probabilities.{Block, clipped_to, region_of, changed_by, multiplied, divided}
+use Rattle.rules.specs.Probabilities.{Block, clipped_to, region_of, changed_by}
 use Rattle.rules.specs.declared.World.{World}
 use Rattle.rules.specs.declared.Offset.{Offset}
 use Rattle.rules.specs.declared.Span.{Span}
 use Rattle.check_sizes.proofs.Sides.{board-cols}
 use Rattle.places.proofs.Indices.{Placed, span_round, row-span, col-span}
-use Rattle.probability_influence.specs.Step.{region_in, changed_at, colours_changed}
+use Rattle.probability_influence.specs.Step.{CellStep, region_in, colours_changed}
 use Rattle.probabilities.specs.Calls.{stepped}
 
 -- the whole step, over the clipped region
-pub whole-step : (reverse : Bool) (rows cols : ℕ) (b : Block) (w : World) (o : Offset) (k : ℕ) (plane : List Float)
-    → colours_changed reverse (rows * cols) cols (region_of rows cols w o k) b plane ≡ stepped reverse rows cols b w o k plane
-unfolding colours_changed stepped multiplied divided changed_at changed_by
-whole-step false rows cols b w o k plane = refl
-whole-step true rows cols b w o k plane = refl
+pub whole-step : (cell : CellStep) (rows cols : ℕ) (b : Block) (w : World) (o : Offset) (k : ℕ) (plane : List Float)
+    → colours_changed cell (rows * cols) cols (region_of rows cols w o k) b plane ≡ stepped cell rows cols b w o k plane
+unfolding colours_changed stepped changed_by
+whole-step cell rows cols b w o k plane = refl
 
 module _ (rows cols : ℕ) (w : World) (o : Offset) (k : ℕ) (p : Placed rows cols w o) {rs cs : Span}
     (r-is : rs ≡ clipped_to rows (span_round (cell_of w o).0 k)) (c-is : cs ≡ clipped_to cols (span_round (cell_of w o).1 k)) where

@@ -7,8 +7,9 @@ ghost use Rattle.probability_influence.specs.Step.{block_of};
 ghost use Rattle.probabilities.specs.Calls.{Changes};
 
 use probability_checks::{check_normalise, check_step};
+use probability_influence::{Change, Product, Quotient, change_colours, clipped};
 use probability_normal::take_place;
-use rules::{Offset, Refusal, World};
+use rules::{Offset, Refusal, Spans, World};
 
 // Each colour's probability at a place, normalised, into out.
 pub fn get_tile_probabilities_at_position(
@@ -28,8 +29,7 @@ pub fn get_tile_probabilities_at_position(
     Ok(())
 }
 
-fn change_probabilities(
-    reverse: bool,
+fn change_probabilities<C: Change>(
     probabilities: &mut [f64],
     rows: usize,
     cols: usize,
@@ -41,7 +41,7 @@ fn change_probabilities(
     offset: Offset,
     radius: usize,
 ) -> Result<(), Refusal>
-    ensures { Changes reverse rows cols count (block_of brows bcols block.now) place offset radius
+    ensures { Changes C.cell rows cols count (block_of brows bcols block.now) place offset radius
         (before probabilities) result (after probabilities) }
 {
     check_step(
@@ -57,20 +57,17 @@ fn change_probabilities(
         radius,
     )?;
     // A place that was not refused has spans.
-    let SpanAnswer::Spans(rowround, colround) = place_spans::get_region_spans(offset, place, radius)
-    else {
-        return Err(Refusal::Place);
+    let round = place_spans::get_region_spans(offset, place, radius)?;
+    let spans = Spans {
+        rows: clipped(rows, round.rows),
+        cols: clipped(cols, round.cols),
     };
-    let rowspan = probability_influence::clipped(rows, rowround);
-    let colspan = probability_influence::clipped(cols, colround);
-    probability_influence::change_colours(
-        reverse,
+    change_colours::<C>(
         probabilities,
         rows * cols,
         cols,
         count as usize,
-        rowspan,
-        colspan,
+        spans,
         block,
         brows,
         bcols,
@@ -94,8 +91,7 @@ pub fn update_probabilities(
     ensures { Multiplies rows cols count (block_of blockrows blockcols block.now) place offset radius
         (before probabilities) result (after probabilities) }
 {
-    change_probabilities(
-        false,
+    change_probabilities::<Product>(
         probabilities,
         rows,
         cols,
@@ -125,8 +121,7 @@ pub fn revert_probabilities(
     ensures { Divides rows cols count (block_of blockrows blockcols block.now) place offset radius
         (before probabilities) result (after probabilities) }
 {
-    change_probabilities(
-        true,
+    change_probabilities::<Quotient>(
         probabilities,
         rows,
         cols,
