@@ -5,8 +5,7 @@
 ghost use Rattle.rules.specs.Promises.{before, after, CopiesWords, CopiesFloats};
 
 use copy_checks::check_copy;
-use copy_floats::{fill_f64, lay_rows_f64};
-use copy_words::{fill_u32, lay_rows_u32};
+use copy_rows::lay_rows;
 use rules::{Pads, Refusal};
 
 // A plane of pieces, weights or counts; it may hold any numbers.
@@ -20,8 +19,8 @@ pub fn extend_array_2d_u32(
     ensures { CopiesWords rows cols pads plane.now (before target) result (after target) }
 {
     check_copy(rows, cols, pads, plane.len(), target.len())?;
-    fill_u32(target);
-    lay_rows_u32(target, plane, rows, cols, pads);
+    target.fill(1);
+    lay_rows(target, plane, rows, cols, pads);
     Ok(())
 }
 
@@ -39,7 +38,7 @@ pub fn extend_array_2d_f64(
     if !check_contents::all_numbers(plane) {
         return Err(Refusal::Number);
     }
-    fill_f64(target);
-    lay_rows_f64(target, plane, rows, cols, pads);
+    target.fill(1.0);
+    lay_rows(target, plane, rows, cols, pads);
     Ok(())
 }

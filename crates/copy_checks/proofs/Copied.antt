@@ -1,5 +1,4 @@
 -- The copy, over any kind of entry, by base's loops over a region: the two calls differ in no more than names.
---     row_is     the loop along a part of a row that becomes the old plane's row, past its end
 --     laid-start, laid-turn, laid_done     the loop over the rows: before the first; one row; past the last
 --     next_row     where row i is read and where it is laid
 --     laid-copied     rows laid in a plane that holds the fill alone make the copy
@@ -15,8 +14,8 @@ use Rattle.base.specs.Regions.{RegionFits, over_region}
 use Rattle.base.proofs.Bools.{pick_yes, pick_no}
 use Rattle.base.proofs.Numbers.{rows_apart}
 use Rattle.base.proofs.Tabled.{length-tab, get_d-tab, is-tab}
-use Rattle.base.proofs.Sweep.{Sweep, sweep-all, length_part, part_at}
-use Rattle.base.proofs.Regions.{RowsDone, region-start, region-turn, region-done, region-is, row_room}
+use Rattle.base.proofs.Sweep.{length_part, part_at}
+use Rattle.base.proofs.Regions.{RowsDone, region-start, region-turn, region-done, region-is}
 use Rattle.rules.specs.Bounds.{max_board_side, max_cells}
 use Rattle.rules.specs.Grid.{cell_at, entry_of}
 use Rattle.rules.specs.Places.{new_rows, new_cols, copied_cell, copied}
@@ -24,12 +23,6 @@ use Rattle.rules.specs.declared.Pads.{Pads}
 use Rattle.rules.proofs.Copying.{old-place}
 use Rattle.check_sizes.proofs.Sides.{board-rows, board-cols, few-cells}
 use Rattle.copy_checks.specs.Laid.{Sized, laid_cell, rows_laid}
-
--- ---- along a row
-
-pub row_is : {A : Type 0} {none : A} {part row w : List A} {j : ℕ} → Sweep none (λ k. get_or row k none) part w j → length part ≡ length row
-    → length part ≤ j → w ≡ row
-row_is {A} {none} {part} {row} s e h = sweep-all s h ∙ sym (is-tab none row (length part) (λ k. get_or row k none) (sym e) (λ k _. refl))
 
 -- ---- over the rows
 
@@ -41,11 +34,10 @@ pub record RowsFit {A : Type 0} (plane larger : List A) (rows cols left top wide
   pub few : length larger ≤ max_cells
   pub few-held : length plane ≤ max_cells
 
--- and in w, which was the larger plane, the rows before row i are laid
-abbrev pub Laying : {A : Type 0} → A → List A → List A → ℕ → ℕ → ℕ → ℕ → ℕ → List A → ℕ → Type 0
-Laying none plane larger rows cols left top wide w i =
-    RowsFit plane larger rows cols left top wide
-    × RowsDone none (laid_cell none plane cols left top) wide left (left + rows) top (top + cols) larger w (left + i)
+-- and in w, which was the larger plane, the rows before row i are laid, by whatever entry the cells past an end are read
+pub record Laying {A : Type 0} (plane larger : List A) (rows cols left top wide : ℕ) (w : List A) (i : ℕ) : Type 0 where
+  pub fit : RowsFit plane larger rows cols left top wide
+  pub done : (none : A) → RowsDone none (laid_cell none plane cols left top) wide left (left + rows) top (top + cols) larger w (left + i)
 
 -- row i of the plane, and its part of w, lie inside these and have one length
 pub record NextRow {A : Type 0} (plane w : List A) (cols left top wide i : ℕ) : Type 0 where
@@ -54,10 +46,11 @@ pub record NextRow {A : Type 0} (plane w : List A) (cols left top wide i : ℕ) 
   pub one-length : let from = entry_of wide (cell_at (left + i) top) in
       length (take (from + cols - from) (drop from w)) ≡ length (take (i * cols + cols - i * cols) (drop (i * cols) plane))
 
-module _ {A : Type 0} {none : A} {plane larger : List A} {rows cols left top : ℕ} where
+module _ {A : Type 0} {plane larger : List A} {rows cols left top : ℕ} where
   pub laid-start : {p : Pads} → Sized rows cols p (length plane) (length larger) → left + rows ≤ new_rows rows p → top + cols ≤ new_cols cols p
-      → Laying none plane larger rows cols left top (new_cols cols p) larger 0
-  laid-start {p} s rowwise colwise = (fit, rw add-zero (region-start none _ _ _ _ _ _ larger fit.region))
+      → Laying plane larger rows cols left top (new_cols cols p) larger 0
+  laid-start {p} s rowwise colwise =
+      record { fit = fit; done = λ none. rw add-zero (region-start none _ _ _ _ _ _ larger fit.region) }
     where
       fit : RowsFit plane larger rows cols left top (new_cols cols p)
       fit =
@@ -76,9 +69,9 @@ module _ {A : Type 0} {none : A} {plane larger : List A} {rows cols left top : �
             few-held = omega (arith, few-cells rows cols s.old-sides, s.held-is);
           }
 
-  module _ {wide i : ℕ} {w : List A} (d : Laying none plane larger rows cols left top wide w i) where
-    pub next_row : i < rows → NextRow plane w cols left top wide i
-    next_row h =
+  module _ {wide i : ℕ} {w : List A} (d : Laying plane larger rows cols left top wide w i) where
+    pub next_row : length w ≡ length larger → i < rows → NextRow plane w cols left top wide i
+    next_row long h =
         record {
           read-in = read-in;
           laid_in = laid_in;
@@ -89,32 +82,45 @@ module _ {A : Type 0} {none : A} {plane larger : List A} {rows cols left top : �
         from = entry_of wide (cell_at (left + i) top)
 
         read-in : i * cols + cols ≤ length plane
-        read-in = omega (arith, rows_apart cols h, d.0.held)
+        read-in = omega (arith, rows_apart cols h, d.fit.held)
+
+        below : left + i < left + rows
+        below = omega arith
 
         laid_in : from + cols ≤ length w
-        laid_in = omega (arith, row_room none _ _ _ _ _ _ larger d.0.region d.1 (omega arith), d.0.region.ends)
+        laid_in = omega (arith, rows_apart wide below, d.fit.region.room, d.fit.region.ends, long)
 
-    -- its part was lent to a function that left the row there
-    pub laid-turn : {ys : List A} → i < rows
+    -- its part was lent to a call that left the row there
+    pub laid-turn : {ys : List A} → length w ≡ length larger → i < rows
         → let from = entry_of wide (cell_at (left + i) top) in
         let start = i * cols in
         ys ≡ take (start + cols - start) (drop start plane)
-        → Laying none plane larger rows cols left top wide (take from w ++ (ys ++ drop (from + cols - from) (drop from w))) (i + 1)
-    laid-turn h e =
-        let from = entry_of wide (cell_at (left + i) top) in
-        let start = i * cols in
-        let row = take (start + cols - start) (drop start plane) in (
-          d.0,
-          rw (← add_assoc left i 1)
-              (region-turn none (laid_cell none plane cols left top) _ _ _ _ _ larger d.0.region d.1 from (from + cols) refl (omega arith) (omega arith)
-              (e ∙ is-tab none row _ (λ j. get_or row j none) (sym (next_row h).one-length) (λ k _. refl))
-              (λ j b.
-              part_at none plane start (start + cols) j (omega arith)
-              ∙ ap (λ (k : ℕ). get_or plane k none) (rw (add-sub_cancel_left left i, add-sub_cancel_left top j)))),
-        )
+        → Laying plane larger rows cols left top wide (take from w ++ (ys ++ drop (from + cols - from) (drop from w))) (i + 1)
+    laid-turn {ys} long h e = record { fit = d.fit; done = done }
+      where
+        from : ℕ
+        from = entry_of wide (cell_at (left + i) top)
 
-    pub laid_done : rows ≤ i → w ≡ over_region none (laid_cell none plane cols left top) wide left (left + rows) top (top + cols) larger
-    laid_done h = region-done none _ _ _ _ _ _ larger d.0.region d.1 (omega arith)
+        start : ℕ
+        start = i * cols
+
+        row : List A
+        row = take (start + cols - start) (drop start plane)
+
+        done : (none : A)
+            → RowsDone none (laid_cell none plane cols left top) wide left (left + rows) top (top + cols) larger
+            (take from w ++ (ys ++ drop (from + cols - from) (drop from w))) (left + (i + 1))
+        done none =
+            rw (← add_assoc left i 1)
+            (region-turn none (laid_cell none plane cols left top) _ _ _ _ _ larger d.fit.region (d.done none) from (from + cols) refl (omega arith)
+            (omega arith)
+            (e ∙ is-tab none row _ (λ j. get_or row j none) (sym (next_row long h).one-length) (λ k _. refl))
+            (λ j b.
+            part_at none plane start (start + cols) j (omega arith)
+            ∙ ap (λ (k : ℕ). get_or plane k none) (rw (add-sub_cancel_left left i, add-sub_cancel_left top j))))
+
+    pub laid_done : rows ≤ i → (none : A) → w ≡ over_region none (laid_cell none plane cols left top) wide left (left + rows) top (top + cols) larger
+    laid_done h none = region-done none _ _ _ _ _ _ larger d.fit.region (d.done none) (omega arith)
 
 -- ---- the copy
 
