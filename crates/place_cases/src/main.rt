@@ -18,70 +18,59 @@ fn number(rt: &impl Print, n: usize) -> io::Result<()> {
 }
 
 fn signed(rt: &impl Print, z: i32) -> io::Result<()> {
-    let wide = z as i64;
-    if wide < 0 {
-        rt.write_all(b" -")?;
-        rt.print(places::clip_to(-wide) as u64)
-    } else {
-        number(rt, places::clip_to(wide))
-    }
+    rt.write_all(if z < 0 { b" -" } else { b" " })?;
+    rt.print(z.unsigned_abs() as u64)
 }
 
 fn flag(rt: &impl Print, b: bool) -> io::Result<()> {
-    if b { number(rt, 1) } else { number(rt, 0) }
+    number(rt, b as usize)
 }
 
-fn refused(rt: &impl Print, n: u8) -> io::Result<()> {
+fn refused(rt: &impl Print, refusal: Refusal) -> io::Result<()> {
     rt.write_all(b"refused")?;
-    number(rt, n as usize)?;
+    number(rt, refusal as usize)?;
     newline(rt)
 }
 
 fn span(rt: &impl Print, offset: Offset, at: World, radius: usize) -> io::Result<()> {
-    let answer = place_spans::get_region_spans(offset, at, radius);
-    match answer {
-        SpanAnswer::Spans(rows, cols) => {
+    match place_spans::get_region_spans(offset, at, radius) {
+        Ok(spans) => {
             rt.write_all(b"span")?;
-            number(rt, rows.0)?;
-            number(rt, rows.1)?;
-            number(rt, cols.0)?;
-            number(rt, cols.1)?;
+            for n in [spans.rows.0, spans.rows.1, spans.cols.0, spans.cols.1] {
+                number(rt, n)?;
+            }
             newline(rt)
         }
-        Err(n) => refused(rt, n),
+        Err(refusal) => refused(rt, refusal),
     }
 }
 
 fn inside(rt: &impl Print, bounds: BoundingBox, at: World) -> io::Result<()> {
-    let answer = place_boxes::contains(bounds, at);
-    match answer {
+    match place_boxes::contains(bounds, at) {
         Ok(b) => {
             rt.write_all(b"contains")?;
             flag(rt, b)?;
             newline(rt)
         }
-        Err(n) => refused(rt, n),
+        Err(refusal) => refused(rt, refusal),
     }
 }
 
 fn grown(rt: &impl Print, answer: Result<ExtensionInfo, Refusal>) -> io::Result<()> {
     match answer {
         Ok(e) => {
-            let pads = e.pads;
-            let offset = e.offset;
             rt.write_all(b"pads")?;
-            number(rt, pads.left)?;
-            number(rt, pads.right)?;
-            number(rt, pads.top)?;
-            number(rt, pads.bottom)?;
+            for n in [e.pads.left, e.pads.right, e.pads.top, e.pads.bottom] {
+                number(rt, n)?;
+            }
             rt.write_all(b" offset")?;
-            signed(rt, offset.0)?;
-            signed(rt, offset.1)?;
+            signed(rt, e.offset.0)?;
+            signed(rt, e.offset.1)?;
             rt.write_all(b" needed")?;
             flag(rt, e.needed)?;
             newline(rt)
         }
-        Err(n) => refused(rt, n),
+        Err(refusal) => refused(rt, refusal),
     }
 }
 
@@ -109,23 +98,16 @@ fn boxed(rt: &impl Print, at: World, min: World, max: World) -> io::Result<()> {
 }
 
 fn words(rt: &impl Print, target: &[u32]) -> io::Result<()> {
-    let mut k = 0;
-    while k < target.len() {
-        word(rt, target[k])?;
-        k += 1;
+    for n in target {
+        number(rt, *n as usize)?;
     }
     newline(rt)
-}
-
-fn word(rt: &impl Print, n: u32) -> io::Result<()> {
-    space(rt)?;
-    rt.print(n as u64)
 }
 
 fn done(rt: &impl Print, answer: Result<(), Refusal>) -> io::Result<()> {
     match answer {
         Ok(()) => rt.write_all(b"copied\n"),
-        Err(n) => refused(rt, n),
+        Err(refusal) => refused(rt, refusal),
     }
 }
 
@@ -142,11 +124,9 @@ fn copy(rt: &impl Print, rows: usize, cols: usize, pads: Pads) -> io::Result<()>
 
 // Of each cell whether it holds 1.0, and whether it holds x.
 fn floats(rt: &impl Print, target: &[f64], x: f64) -> io::Result<()> {
-    let mut k = 0;
-    while k < target.len() {
-        flag(rt, target[k] == 1.0)?;
-        flag(rt, target[k] == x)?;
-        k += 1;
+    for held in target {
+        flag(rt, *held == 1.0)?;
+        flag(rt, *held == x)?;
     }
     newline(rt)
 }

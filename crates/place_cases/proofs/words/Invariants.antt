@@ -1,6 +1,0 @@
--- `place_cases::words` ends: it reads the cells in turn. Assumes nothing.
-use Rattle.std.proofs.Common.{◌-◌, length}
-use Rattle.place_cases.proofs.words.Given as goal
-
-abbrev pub decreases-loop-k : goal.decreases-loop-k
-decreases-loop-k g l = length l.target - l.k
