@@ -2,8 +2,9 @@
 use Prim.Native.Nat.{ℕ}
 use mathlib.Core.Path.{◌≡◌, refl, sym, ◌∙◌, ap}
 use mathlib.Core.List.{List}
-use Rattle.base.specs.Refusal.{refusal}
-use Rattle.base.proofs.Chain.{Passes, all_pass}
+use Rattle.std.specs.Prelude.{Ok}
+use Rattle.base.specs.Refusal.{Checks, ◌then◌, refusal}
+use Rattle.base.proofs.Chain.{Passes, go, all_pass}
 use Rattle.rules.specs.Tests.{tiles_in}
 use Rattle.rules.specs.Places.{cell_of}
 use Rattle.rules.specs.Fit.{pieces_checks}
@@ -16,13 +17,17 @@ use Rattle.fit_windows.specs.Ready.{Countable}
 use Rattle.fit_windows.proofs.Accepted.{ready-from}
 use Rattle.board_near.specs.Near.{OnPlane}
 use Rattle.board_near.proofs.Leaning.{on-plane}
-use Rattle.rules.specs.Answers.{Answer}
+use Rattle.rules.specs.Answers.{Answer, answered, checked}
+
+-- a part that stands last, and whose answer is the function's
+pub then-part : {x : Answer Unit} (cs ds : Checks) → 0 ≡ refusal cs → x ≡ checked ds → x ≡ checked (cs then ds)
+then-part cs ds z e = e ∙ ap (λ (n : ℕ). answered n tt) (go (refusal ds) cs ds z refl)
 
 -- the contents, by the number of tiles that `tile_number` answers
-pub counted-by : (counts pieces tiles : List ℕ) (count : ℕ) (a : Answer ℕ) (x : ℕ) → a ≡ Tiles x → a ≡ tiles_counted tiles
-    → (m : ℕ) → m ≡ refusal (counted_contents tiles count pieces counts x) → m ≡ refusal (counted_contents tiles count pieces counts (tiles_in tiles))
-counted-by counts pieces tiles count a x y t m e =
-    e ∙ ap (λ (n : ℕ). refusal (counted_contents tiles count pieces counts n)) (so-many tiles a t x y)
+pub counted-by : (counts pieces tiles : List ℕ) (count : ℕ) {a : Answer ℕ} (x : ℕ) → a ≡ Ok x → a ≡ tiles_counted tiles
+    → {y : Answer Unit} → y ≡ checked (counted_contents tiles count pieces counts x) → y ≡ checked (counted_contents tiles count pieces counts (tiles_in tiles))
+counted-by counts pieces tiles count {a} x t e p =
+    p ∙ ap (λ (n : ℕ). checked (counted_contents tiles count pieces counts n)) (so-many tiles a e x t)
 
 pub record Planed (counts pieces : List ℕ) (rows cols : ℕ) (tiles : List ℕ) (w : World) (o : Offset) : Type 0 where
   pub on : OnPlane counts rows cols (cell_of w o)

@@ -16,7 +16,7 @@ use Rattle.rules.specs.Grid.{cell_at, entry_of, flat}
 use Rattle.rules.specs.Fit.{pattern, fit_count}
 use Rattle.rules.specs.Board.{recounted, is_recounted}
 use Rattle.rules.specs.declared.Cell.{Cell}
-use Rattle.rules.specs.declared.Span.{Span}
+use Rattle.rules.specs.declared.Spans.{Spans}
 use Rattle.board_near.specs.Near.{OnPlane, Nearby}
 use Rattle.board_near.proofs.Nearby.{apart-is, near-region, near-far, near-close}
 use Rattle.board_near.proofs.Leaning.{in-plane}
@@ -44,11 +44,11 @@ module _ (tiles pieces : List ℕ) (rows cols row col old : ℕ) (h : col < cols
       ∙ sym (pick_yes _ _ _ (whole_is rows cols row col h ∙ and_both (ltb (row + 2) rows) _ (lt-ltb (row + 2) rows p) (lt-ltb (col + 2) cols q)))
 
 -- the spans round a cell
-module _ (rows cols : ℕ) (cell : Cell) (rowspan colspan : Span) (l : List ℕ) (on : OnPlane l rows cols cell) (near : Nearby rows cols cell rowspan colspan) where
-  pub in-spans : InSpans l rows cols rowspan colspan
+module _ (rows cols : ℕ) (cell : Cell) (spans : Spans) (l : List ℕ) (on : OnPlane l rows cols cell) (near : Nearby rows cols cell spans) where
+  pub in-spans : InSpans l rows cols spans
   in-spans =
       record {
-        region = near-region rows cols cell rowspan colspan near l on;
+        region = near-region rows cols cell spans near l on;
         long = on.long;
         short = (in-plane l rows cols cell on).1;
         bottom = omega (arith, near.bottom, min-le_right (cell.0 + 3) rows);
@@ -59,16 +59,16 @@ module _ (rows cols : ℕ) (cell : Cell) (rowspan colspan : Span) (l : List ℕ)
   near-is k t e = ap (λ (b : Bool). b && (flat rows cols).whole k) e
 
   pub recounted-is : (tiles pieces : List ℕ)
-      → recounted_in (flat rows cols) cols tiles pieces rowspan colspan l ≡ recounted (flat rows cols) tiles pieces (entry_of cols cell) l
+      → recounted_in (flat rows cols) cols tiles pieces spans l ≡ recounted (flat rows cols) tiles pieces (entry_of cols cell) l
   unfolding recounted_in recounted_by recounted
   recounted-is tiles pieces =
-      region-is 0 _ cols rowspan.0 rowspan.1 colspan.0 colspan.1 l _
+      region-is 0 _ cols spans.rows.0 spans.rows.1 spans.cols.0 spans.cols.1 l _
       (λ k k< e.
       let d = (flat rows cols).apart (entry_of cols cell) k in
-      let close : d ≤ 2 = omega (arith, apart-is rows cols cell k on.colwise, near-close rows cols cell rowspan colspan near k e) in
+      let close : d ≤ 2 = omega (arith, apart-is rows cols cell k on.colwise, near-close rows cols cell spans near k e) in
       rw (near-is k true (le-leb d 2 close), cell-is k cols))
       (λ k k< e.
       let d = (flat rows cols).apart (entry_of cols cell) k in
       let wide : 0 < cols = omega (arith, on.colwise) in
-      let far : 2 < d = omega (arith, apart-is rows cols cell k on.colwise, near-far rows cols cell rowspan colspan near k wide (omega (arith, on.long)) e) in
+      let far : 2 < d = omega (arith, apart-is rows cols cell k on.colwise, near-far rows cols cell spans near k wide (omega (arith, on.long)) e) in
       rw (near-is k false (lt-leb d 2 far)))

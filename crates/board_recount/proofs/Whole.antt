@@ -19,17 +19,17 @@ use Rattle.rules.specs.Tests.{tiles_in}
 use Rattle.rules.specs.Grid.{flat}
 use Rattle.rules.specs.Fit.{pattern, fit_count}
 use Rattle.rules.specs.Board.{counts_of}
-use Rattle.rules.specs.declared.Span.{Span}
+use Rattle.rules.specs.declared.Spans.{Spans}
 use Rattle.board_recount.specs.Recounted.{recounted_by, recounted_in, InSpans}
 
--- the span of the indices below n
-abbrev below : ℕ → Span
-below n = record { 0 = 0; 1 = n }
+-- the spans of the first rows and columns
+abbrev first : ℕ → ℕ → Spans
+first r c = record { rows = record { 0 = 0; 1 = r }; cols = record { 0 = 0; 1 = c } }
 
 module _ (rows cols : ℕ) where
   -- the first rows and columns of a plane in bounds
   pub first-spans : (counts : List ℕ) (r c : ℕ) → r ≤ rows → c ≤ cols → rows ≤ max_board_side → cols ≤ max_board_side → 0 < cols
-      → length counts ≡ rows * cols → InSpans counts rows cols (below r) (below c)
+      → length counts ≡ rows * cols → InSpans counts rows cols (first r c)
   first-spans counts r c rowwise colwise tall low wide size =
       let few : rows * cols ≤ max_cells = mul-le tall low in
       let room : r * cols ≤ rows * cols = mul-le-mul_right cols rowwise in
@@ -43,7 +43,7 @@ module _ (rows cols : ℕ) where
   -- all of them
   pub all-counted : (tiles pieces : List ℕ) {counts : List ℕ} (m : ℕ) → 0 < cols → length pieces ≡ rows * cols
       → counts ≡ tab m (λ k. tiles_in tiles) → m ≡ rows * cols
-      → recounted_in (flat rows cols) cols tiles pieces (below rows) (below cols) counts ≡ counts_of (flat rows cols) tiles pieces
+      → recounted_in (flat rows cols) cols tiles pieces (first rows cols) counts ≡ counts_of (flat rows cols) tiles pieces
   unfolding recounted_in recounted_by counts_of
   all-counted tiles pieces m wide long e q =
       rw (e, q)

@@ -14,7 +14,7 @@ ghost use Rattle.board_recount.specs.Recounted.{recounted_by, recounted_in, InSp
 
 use board_near::near_spans;
 use check_contents::{check_colours, no_word_above};
-use check_sizes::{board_sides, cells_of, tile_number, has_length};
+use check_sizes::{board_sides, cells_of, has_length, tile_number};
 use fit_windows::fit_count_at;
 use rules::{Offset, Refusal, Spans, World};
 
@@ -53,10 +53,8 @@ fn recount_row(
     requires { (Countable pieces.now rows cols tiles.now) × (row < rows) × (left + length part.old ≤ cols) }
     ensures { after part ≡ over_row 0 (recounted_by (flat rows cols) cols tiles.now pieces.now) row left (before part) }
 {
-    let mut j = 0;
-    while j < part.len() {
-        part[j] = count_after(pieces, rows, cols, tiles, row, left + j, part[j]);
-        j += 1;
+    for (j, count) in part.iter_mut().enumerate() {
+        *count = count_after(pieces, rows, cols, tiles, row, left + j, *count);
     }
 }
 
@@ -69,11 +67,10 @@ pub fn recount_near(
     tiles: &[u8],
     spans: Spans,
 )
-    requires { (InSpans counts.old rows cols spans.rows spans.cols) × (Countable pieces.now rows cols tiles.now) }
-    ensures { after counts ≡ recounted_in (flat rows cols) cols tiles.now pieces.now spans.rows spans.cols (before counts) }
+    requires { (InSpans counts.old rows cols spans) × (Countable pieces.now rows cols tiles.now) }
+    ensures { after counts ≡ recounted_in (flat rows cols) cols tiles.now pieces.now spans (before counts) }
 {
-    let mut row = spans.rows.0;
-    while row < spans.rows.1 {
+    for row in spans.rows.0..spans.rows.1 {
         let from = row * cols + spans.cols.0;
         let to = row * cols + spans.cols.1;
         recount_row(
@@ -85,12 +82,17 @@ pub fn recount_near(
             row,
             spans.cols.0,
         );
-        row += 1;
     }
 }
 
 // COUNT, and CELL of all that is read; n is the number of tiles.
-fn check_counted(counts: &[u32], pieces: &[u32], tiles: &[u8], count: u32, n: usize) -> Result<(), Refusal>
+fn check_counted(
+    counts: &[u32],
+    pieces: &[u32],
+    tiles: &[u8],
+    count: u32,
+    n: usize,
+) -> Result<(), Refusal>
     requires { n ≤ max_tiles }
     ensures { result ≡ checked (counted_contents tiles.now count pieces.now counts.now n) }
 {
@@ -122,9 +124,7 @@ fn check_planes(
     if !has_length(pieces, cells) {
         return Err(Refusal::Length);
     }
-    let Ok(n) = tile_number(tiles) else {
-        return Err(Refusal::Length);
-    };
+    let n = tile_number(tiles)?;
     check_counted(counts, pieces, tiles, count, n)
 }
 
@@ -142,9 +142,7 @@ pub fn recount_feasibility(
     ensures { Recounts (panel rows cols tiles.now offset) count place pieces.now (before counts) result (after counts) }
 {
     check_planes(counts, pieces, rows, cols, tiles, count)?;
-    let Ok(spans) = near_spans(rows, cols, place, offset) else {
-        return Err(Refusal::Place);
-    };
+    let spans = near_spans(rows, cols, place, offset)?;
     recount_near(counts, pieces, rows, cols, tiles, spans);
     Ok(())
 }

@@ -39,8 +39,8 @@ recount_row-requires c =
     let l = c.loop-row in
     let a = c.args in
     let g = c.requires.0.region in
-    let from = l.row * a.cols + a.colspan.0 in
-    let to = l.row * a.cols + a.colspan.1 in (
+    let from = l.row * a.cols + a.spans.cols.0 in
+    let to = l.row * a.cols + a.spans.cols.1 in (
       c.requires.1,
       omega (arith, c.loop-row-test.true, c.requires.0.bottom),
       omega (arith, length_part l.counts from to (omega (arith, room (goal.at.recount_row-requires c).In-loop-row, g, l.invariant.long)), g),
@@ -50,11 +50,8 @@ pub loop-row-preserved : goal.loop-row-preserved
 loop-row-preserved c =
     let l = c.loop-row in
     let a = c.args in
-    region-row 0 (recounted_by (flat a.rows a.cols) a.cols a.tiles.now a.pieces.now) _ _ _ _ _ _ c.requires.0.region l.invariant (l.row * a.cols + a.colspan.0) (l.row * a.cols + a.colspan.1) refl refl c.loop-row-test.true
+    region-row 0 (recounted_by (flat a.rows a.cols) a.cols a.tiles.now a.pieces.now) _ _ _ _ _ _ c.requires.0.region l.invariant (l.row * a.cols + a.spans.cols.0) (l.row * a.cols + a.spans.cols.1) refl refl c.loop-row-test.true
     c.recount_row.ensures
-
-pub shape_of-counts : goal.shape_of-counts
-shape_of-counts c = c.loop-row.invariant.long
 
 pub returns : goal.returns
 unfolding recounted_in

@@ -1,6 +1,4 @@
 -- `board_recount::recount_row` meets its contract: a sweep along the row. Assumes nothing.
-use Prim.Native.Nat.{◌-◌}
-use lib.ListN.{length}
 use Rattle.base.proofs.Sweep.{Sweep}
 use Rattle.base.proofs.Regions.{entry_then}
 use Rattle.rules.specs.Grid.{flat}
@@ -9,6 +7,3 @@ use Rattle.board_recount.proofs.recount_row.Given as goal
 
 abbrev pub invariant-loop-j : goal.invariant-loop-j
 invariant-loop-j l = Sweep 0 (entry_then 0 (recounted_by (flat l.rows l.cols) l.cols l.tiles l.pieces) l.row l.left l.initial.part) l.initial.part l.part l.j
-
-abbrev pub decreases-loop-j : goal.decreases-loop-j
-decreases-loop-j l = length l.initial.part - l.j
