@@ -15,26 +15,12 @@ const SPREAD: usize = 61;
 
 pub const BUCKETS: usize = 4096;
 
-fn wide(b: u8) -> usize
-    ensures { (result ≡ b) × (result < 256) }
-{
-    b as usize
-}
-
-fn number(n: u16) -> usize
-    ensures { result ≡ n }
-{
-    n as usize
-}
-
 pub fn bucket_of(tile: &[u8; rules::TILE_CELLS]) -> usize
     ensures { (result ≡ bucket_of (λ k. get_or tile.now k 0)) × (result < buckets) }
 {
     let mut bucket = 0;
-    let mut k = 0;
-    while k < rules::TILE_CELLS {
-        bucket = (bucket * SPREAD + wide(tile[k])) % BUCKETS;
-        k += 1;
+    for cell in tile {
+        bucket = (bucket * SPREAD + usize::from(*cell)) % BUCKETS;
     }
     bucket
 }
@@ -45,12 +31,10 @@ fn same_tile(tiles: &[u8], n: usize, tile: &[u8; rules::TILE_CELLS]) -> bool
     ensures { result ≡ same_tile tiles.now tile.now n }
 {
     let at = n * rules::TILE_CELLS;
-    let mut k = 0;
-    while k < rules::TILE_CELLS {
-        if tiles[at + k] != tile[k] {
+    for (k, cell) in tile.iter().enumerate() {
+        if tiles[at + k] != *cell {
             return false;
         }
-        k += 1;
     }
     true
 }
@@ -66,13 +50,13 @@ pub fn has_tile(
     requires { Chained tiles.now heads.now nexts.now × (bucket ≡ bucket_of (λ k. get_or tile.now k 0)) × (bucket < buckets) }
     ensures { result ≡ has_tile tiles.now tile.now }
 {
-    let mut last = number(heads[bucket]);
+    let mut last = usize::from(heads[bucket]);
     while last != 0 {
         let n = last - 1;
         if same_tile(tiles, n, tile) {
             return true;
         }
-        last = number(nexts[n]);
+        last = usize::from(nexts[n]);
     }
     false
 }

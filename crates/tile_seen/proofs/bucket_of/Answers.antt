@@ -9,22 +9,18 @@ use Rattle.tile_seen.specs.Chains.{buckets, spread, bucket_to}
 use Rattle.tile_seen.proofs.Buckets.{bucket-none, bucket-more, bucket-done}
 use Rattle.tile_seen.proofs.bucket_of.Goals as goal
 
-pub loop-k-init : goal.loop-k-init
-loop-k-init c = (omega arith, omega arith, bucket-none _)
+pub loop-cell-init : goal.loop-cell-init
+loop-cell-init c = (omega arith, bucket-none _)
 
-pub overflow_add-bucket : goal.overflow_add-bucket
-overflow_add-bucket c = record { fits = omega (arith, c.before.before.before.loop-k.invariant.1, c.wide.ensures.1) }
-
-pub loop-k-preserved : goal.loop-k-preserved
-loop-k-preserved c =
-    let l = c.before.before.before in
-    let cell : ℕ → ℕ = λ i. get_or l.before.args.tile.now i 0 in (
-      omega arith,
+pub loop-cell-preserved : goal.loop-cell-preserved
+loop-cell-preserved c =
+    let l = c.loop-cell in
+    let cell : ℕ → ℕ = λ i. get_or c.args.tile.now i 0 in (
       mod-lt _ (lit< tt),
-      ap (λ (x : ℕ). (x * spread + c.wide.result) % buckets) l.loop-k.invariant.2
-          ∙ ap (λ (x : ℕ). (bucket_to cell l.loop-k.k * spread + x) % buckets) c.wide.ensures.0
-          ∙ bucket-more cell l.loop-k.k,
+      ap (λ (x : ℕ). (x * spread + c.from.result) % buckets) l.invariant.1
+          ∙ ap (λ (x : ℕ). (bucket_to cell l.cell-index * spread + x) % buckets) c.from.ensures
+          ∙ bucket-more cell l.cell-index,
     )
 
 pub returns : goal.returns
-returns c = (c.before.loop-k.invariant.2 ∙ bucket-done _ _ (omega arith), c.before.loop-k.invariant.1)
+returns c = (c.loop-cell.invariant.1 ∙ bucket-done _ _ (omega arith), c.loop-cell.invariant.0)

@@ -10,16 +10,16 @@ use Rattle.rules.specs.Tiles.{same_tile}
 use Rattle.tile_seen.proofs.same_tile.Goals as goal
 
 pub loop-k-init : goal.loop-k-init
-loop-k-init c = (omega arith, every-none _)
+loop-k-init c = every-none _
 
 pub returns-then-tiles-at : goal.returns-then-tiles-at
 unfolding same_tile
 returns-then-tiles-at c = every-stop _ (omega arith) (ne_eqb _ _ c.if-tiles-at.true)
 
 pub loop-k-preserved : goal.loop-k-preserved
-loop-k-preserved c = let a = c.before.before.before.before.before.args in
-    (omega arith, every-next (λ k. eqb (get_or a.tiles.now (a.n * 9 + k) 0) (get_or a.tile.now k 0)) c.before.before.before.before.loop-k.invariant.1 (eq-eqb _ _ c.if-tiles-at.false))
+loop-k-preserved c =
+    every-next (λ k. eqb (get_or c.args.tiles.now (c.args.n * 9 + k) 0) (get_or c.args.tile.now k 0)) c.loop-k.invariant (eq-eqb _ _ c.if-tiles-at.false)
 
 pub returns : goal.returns
 unfolding same_tile
-returns c = every-done _ c.before.loop-k.invariant.0 c.loop-k-test.false (sym c.before.loop-k.invariant.1)
+returns c = every-done _ (omega arith) (omega arith) (sym c.loop-k.invariant)
