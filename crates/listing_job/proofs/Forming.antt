@@ -10,6 +10,7 @@ use native.Mathlib.Omega.{arith}
 use lib.Dec.{leb, eqb}
 use lib.ListN.{length, get_or, drop, length-drop, drop_of_length-le}
 use lib.Seq.{drop-cons, drop-drop}
+use Rattle.std.specs.Prelude.{Some, None}
 use borrow.Author.Tests.{lt-leb, le-leb, ne_eqb, eqb-true, eqb-false}
 use Rattle.base.specs.Counting.{pick, within}
 use Rattle.base.proofs.Bools.{and_left, and_right, by-test, pick_yes, pick_no}
@@ -17,7 +18,6 @@ use Rattle.base.proofs.Numbers.{mul-le, within-high, lt-or-le}
 use Rattle.listing_job.specs.Form.{Step, lay, lift, Steps, misformed, steps, and_then, steps_in, is_whole, step_end, max_sample, sides_up_to, head_fits, sample_cells, tail_fits, is_formed, sides_of, setup_of, form_of}
 use Rattle.listing_job.specs.declared.Sides.{Sides}
 use Rattle.listing_job.specs.declared.Setup.{Setup}
-use Rattle.listing_job.specs.declared.Form.TheVariants as Form·
 
 -- ---- a step at the start of a list: the number that it starts with, how many follow, what they make
 pub record Starts (first width : ℕ) (make : List ℕ → Step) : Type 0 where
@@ -178,9 +178,6 @@ few-cells ns t =
     let w = sides-up max_sample (get_or ns 0 0) (get_or ns 1 0) (head-sides ns t) in
     mul-le {a = get_or ns 0 0} {b = get_or ns 1 0} {m = 16} {n = 16} (within-high 1 max_sample (get_or ns 0 0) w.0) (within-high 1 max_sample (get_or ns 1 0) w.1)
 
-pub cells_are : {a b : ℕ} (ns : List ℕ) → a ≡ get_or ns 0 0 → b ≡ get_or ns 1 0 → a * b ≡ sample_cells ns
-cells_are ns p q = rw (p, q)
-
 -- ---- the exits
 pub formed-head : (ns : List ℕ) → is_formed ns ≡ true → head_fits ns ≡ true
 unfolding is_formed
@@ -190,13 +187,13 @@ pub formed-tail : (ns : List ℕ) → is_formed ns ≡ true → tail_fits ns (sa
 unfolding is_formed
 formed-tail ns t = and_right (head_fits ns) (tail_fits ns (sample_cells ns)) t
 
-pub form-is : {s : Setup} (ns : List ℕ) → is_formed ns ≡ true → s ≡ setup_of ns → Form·.Whole s ≡ form_of ns
+pub form-is : {s : Setup} (ns : List ℕ) → is_formed ns ≡ true → s ≡ setup_of ns → Some s ≡ form_of ns
 unfolding form_of
-form-is ns t e = ap Form·.Whole e ∙ sym (pick_yes (is_formed ns) (Form·.Whole (setup_of ns)) Form·.Bad t)
+form-is ns t e = ap Some e ∙ sym (pick_yes (is_formed ns) (Some (setup_of ns)) None t)
 
-pub form-bad : (ns : List ℕ) → is_formed ns ≡ false → Form·.Bad ≡ form_of ns
+pub form-bad : (ns : List ℕ) → is_formed ns ≡ false → None ≡ form_of ns
 unfolding form_of
-form-bad ns t = sym (pick_no (is_formed ns) (Form·.Whole (setup_of ns)) Form·.Bad t)
+form-bad ns t = sym (pick_no (is_formed ns) (Some (setup_of ns)) None t)
 
 pub setup-is : {cells n rot ref rows cols : ℕ} {s b : Sides} (ns : List ℕ) → cells ≡ sample_cells ns → s ≡ sides_of (get_or ns 0 0) (get_or ns 1 0)
     → rows ≡ get_or ns (cells + 5) 0 → cols ≡ get_or ns (cells + 6) 0 → b ≡ sides_of rows cols

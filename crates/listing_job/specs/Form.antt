@@ -1,11 +1,9 @@
 -- Document 01, "Listing program": the numbers in their order. Sample rows, columns, colour count, rotations, reflections (0 or 1),
 -- sample cells, board rows, columns, then steps `1 row col colour` or `2 row col`. Sample sides 1..=16, board sides 1..=32.
-use Rattle.std.specs.Prelude.{ℕ, zero, suc, ◌+◌, ◌*◌, Bool, true, false, ◌&&◌, List, [], ◌∷◌, leb, eqb, length, get_or, take, drop}
+use Rattle.std.specs.Prelude.{ℕ, zero, suc, ◌+◌, ◌*◌, Bool, true, false, ◌&&◌, List, [], ◌∷◌, Option, Some, None, leb, eqb, length, get_or, take, drop}
 use Rattle.base.specs.Counting.{pick, within}
 use Rattle.listing_job.specs.declared.Sides.{Sides}
 use Rattle.listing_job.specs.declared.Setup.{Setup}
-use Rattle.listing_job.specs.declared.Form.{Form}
-use Rattle.listing_job.specs.declared.Form.TheVariants as Form·
 
 -- ---- steps
 
@@ -94,5 +92,5 @@ sample_in ns = take (sample_cells ns) (drop 5 ns)
 unfoldable pub step_numbers : List ℕ → List ℕ
 step_numbers ns = drop (sample_cells ns + 7) ns
 
-unfoldable pub form_of : List ℕ → Form
-form_of ns = pick (is_formed ns) (Form·.Whole (setup_of ns)) Form·.Bad
+unfoldable pub form_of : List ℕ → Option Setup
+form_of ns = pick (is_formed ns) (Some (setup_of ns)) None

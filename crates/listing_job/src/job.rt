@@ -3,22 +3,13 @@ ghost use Rattle.std.specs.Prelude.{◌≡◌, true, ◌<◌, ◌≤◌, length,
 ghost use Rattle.base.specs.Counting.{within};
 ghost use Rattle.listing_job.specs.Form.{step_end, steps_in, is_whole, sides_up_to, head_fits, sample_cells, tail_fits, is_formed, sides_of, setup_of, form_of};
 
-use crate::{Form, MAX_BOARD, MAX_SAMPLE, Setup, Sides};
+use crate::{MAX_BOARD, MAX_SAMPLE, Setup, Sides};
 
 // The number at k, 0 past the last.
 fn number(numbers: &[u32], k: usize) -> u32
     ensures { result ≡ get_or numbers.now k 0 }
 {
-    if k < numbers.len() {
-        return numbers[k];
-    }
-    0
-}
-
-fn wide(n: u32) -> usize
-    ensures { result ≡ n }
-{
-    n as usize
+    numbers.get(k).copied().unwrap_or(0)
 }
 
 fn side_up_to(most: u32, side: u32) -> bool
@@ -38,13 +29,11 @@ pub fn step_end(numbers: &[u32], p: usize) -> usize
     requires { p < length numbers.now }
     ensures { result ≡ step_end numbers.now p }
 {
-    if numbers[p] == 1 {
-        return p + 4;
+    match numbers[p] {
+        1 => p + 4,
+        2 => p + 3,
+        _ => numbers.len() + 1,
     }
-    if numbers[p] == 2 {
-        return p + 3;
-    }
-    numbers.len() + 1
 }
 
 // The numbers from the given one on are whole steps.
@@ -62,34 +51,22 @@ fn are_steps(numbers: &[u32], from: usize) -> bool
 fn head_fits(numbers: &[u32]) -> bool
     ensures { result ≡ head_fits numbers.now }
 {
-    if sides_up_to(MAX_SAMPLE, number(numbers, 0), number(numbers, 1)) {
-        if number(numbers, 3) <= 1 {
-            number(numbers, 4) <= 1
-        } else {
-            false
-        }
-    } else {
-        false
-    }
+    sides_up_to(MAX_SAMPLE, number(numbers, 0), number(numbers, 1))
+        && number(numbers, 3) <= 1
+        && number(numbers, 4) <= 1
 }
 
 fn tail_fits(numbers: &[u32], cells: usize) -> bool
     requires { cells ≤ 256 }
     ensures { result ≡ tail_fits numbers.now cells }
 {
-    if cells + 7 <= numbers.len() {
-        if sides_up_to(
+    cells + 7 <= numbers.len()
+        && sides_up_to(
             MAX_BOARD,
             number(numbers, cells + 5),
             number(numbers, cells + 6),
-        ) {
-            are_steps(numbers, cells + 7)
-        } else {
-            false
-        }
-    } else {
-        false
-    }
+        )
+        && are_steps(numbers, cells + 7)
 }
 
 // How many cells the sample has.
@@ -97,7 +74,7 @@ fn sample_cells(numbers: &[u32]) -> usize
     requires { head_fits numbers.now ≡ true }
     ensures { result ≡ sample_cells numbers.now }
 {
-    wide(number(numbers, 0)) * wide(number(numbers, 1))
+    number(numbers, 0) as usize * number(numbers, 1) as usize
 }
 
 fn is_formed(numbers: &[u32]) -> bool
@@ -120,23 +97,22 @@ fn setup_of(numbers: &[u32]) -> Setup
     ensures { result ≡ setup_of numbers.now }
 {
     let cells = sample_cells(numbers);
-    let sample = sides(number(numbers, 0), number(numbers, 1));
-    let board = sides(number(numbers, cells + 5), number(numbers, cells + 6));
     Setup {
-        sample: sample,
+        sample: sides(number(numbers, 0), number(numbers, 1)),
         count: number(numbers, 2),
         rotations: number(numbers, 3) == 1,
         reflections: number(numbers, 4) == 1,
-        board: board,
+        board: sides(number(numbers, cells + 5), number(numbers, cells + 6)),
     }
 }
 
 // The job that the numbers make, if they are of its form.
-pub fn form_of(numbers: &[u32]) -> Form
+pub fn form_of(numbers: &[u32]) -> Option<Setup>
     ensures { result ≡ form_of numbers.now }
 {
     if is_formed(numbers) {
-        return Form::Whole(setup_of(numbers));
+        Some(setup_of(numbers))
+    } else {
+        None
     }
-    Form::Bad
 }

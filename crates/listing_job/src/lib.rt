@@ -24,9 +24,3 @@ pub struct Setup {
     pub reflections: bool,
     pub board: Sides,
 }
-
-#[derive(Clone, Copy)]
-pub enum Form {
-    Whole(Setup),
-    Bad,
-}

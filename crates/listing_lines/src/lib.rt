@@ -1,5 +1,6 @@
 // Numbers and planes as text, written into a lent buffer. Each call takes the entry at which it starts and answers the entry after what it
-// wrote; what would pass the buffer's end is dropped, and the answer stays at the end.
+// wrote; what would pass the buffer's end is dropped, and the answer stays at the end. The digits are made here, and not by std's formatting:
+// the promises say which bytes stand in the buffer, which its contracts do not.
 #![tactic(auto)]
 
 ghost use Rattle.std.specs.Prelude.{◌≡◌, [], ◌∷◌, ◌+◌, ◌-◌, ◌%◌, ◌<◌, length};
@@ -56,10 +57,8 @@ pub fn put_text(out: &mut [u8], at: usize, text: &[u8]) -> usize
     ensures { Prints text.now at (before out) result (after out) }
 {
     let mut p = at;
-    let mut k = 0;
-    while k < text.len() {
-        p = put(out, p, text[k]);
-        k += 1;
+    for &b in text {
+        p = put(out, p, b);
     }
     p
 }
@@ -68,22 +67,17 @@ pub fn put_text(out: &mut [u8], at: usize, text: &[u8]) -> usize
 fn gap_after(cols: usize, k: usize) -> u8
     ensures { result ≡ parting cols k }
 {
-    if cols == 0 {
-        return b' ';
+    if cols != 0 && k % cols + 1 == cols {
+        b'\n'
+    } else {
+        b' '
     }
-    if k % cols + 1 == cols {
-        return b'\n';
-    }
-    b' '
 }
 
 fn above(least: u32, n: u32) -> u32
     ensures { result ≡ n - least }
 {
-    if n < least {
-        return 0;
-    }
-    n - least
+    n.saturating_sub(least)
 }
 
 // A cell of a plane, and what stands after it.
@@ -100,10 +94,8 @@ pub fn put_plane(out: &mut [u8], at: usize, least: u32, plane: &[u32], cols: usi
     ensures { Prints (plane_text least plane.now cols) at (before out) result (after out) }
 {
     let mut p = at;
-    let mut k = 0;
-    while k < plane.len() {
+    for k in 0..plane.len() {
         p = put_cell(out, p, least, plane, cols, k);
-        k += 1;
     }
     p
 }

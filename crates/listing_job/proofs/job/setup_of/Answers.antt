@@ -10,4 +10,4 @@ pub overflow_add-cells-2 : goal.overflow_add-cells-2
 overflow_add-cells-2 c = omega (arith, c.sample_cells-cells.ensures, few-cells c.args.numbers.now c.requires)
 
 pub returns : goal.returns
-returns c = setup-is _ c.sample_cells-cells.ensures (sides-of c.number.ensures c.number-2.ensures c.sides-sample.ensures) c.number-3.ensures c.number-4.ensures c.sides-board.ensures c.number-5.ensures c.number-6.ensures c.number-7.ensures
+returns c = setup-is _ c.sample_cells-cells.ensures (sides-of c.number.ensures c.number-2.ensures c.sides.ensures) c.number-6.ensures c.number-7.ensures c.sides-2.ensures c.number-3.ensures c.number-4.ensures c.number-5.ensures
