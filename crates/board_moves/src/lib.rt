@@ -23,7 +23,7 @@ pub fn lay_at(
     spans: Spans,
     colour: u32,
 )
-    requires { (Movable (board pieces.old weights.old counts.old) rows cols tiles.now cell spans.rows spans.cols) × (colour ≤ max_colours) }
+    requires { (Movable (board pieces.old weights.old counts.old) rows cols tiles.now cell spans) × (colour ≤ max_colours) }
     ensures { board_after pieces weights counts ≡ laid (flat rows cols) tiles.now (board_before pieces weights counts) (entry_of cols cell) colour }
 {
     let k = cell.0 * cols + cell.1;
@@ -42,7 +42,7 @@ pub fn lift_at(
     cell: Cell,
     spans: Spans,
 )
-    requires { Movable (board pieces.old weights.old counts.old) rows cols tiles.now cell spans.rows spans.cols }
+    requires { Movable (board pieces.old weights.old counts.old) rows cols tiles.now cell spans }
     ensures { board_after pieces weights counts ≡ lifted (flat rows cols) tiles.now (board_before pieces weights counts) (entry_of cols cell) }
 {
     let k = cell.0 * cols + cell.1;

@@ -22,10 +22,10 @@ bounds-pieces-k c = omega (arith, in-plane _ _ _ _ c.requires.pieces)
 pub recount_near-requires : goal.recount_near-requires
 recount_near-requires c =
     let p = c.requires in
-    (in-spans _ _ _ _ _ _ p.counts p.near, set-countable _ _ _ _ _ (omega arith) (omega (arith, c.requires)) _ p.ready)
+    (in-spans _ _ _ _ _ p.counts p.near, set-countable _ _ _ _ _ (omega arith) (omega (arith, c.requires)) _ p.ready)
 
 pub returns : goal.returns
 unfolding lifted
 returns c =
     let p = c.requires in
-    rw (c.lower_near.ensures, c.recount_near.ensures ∙ recounted-is _ _ _ _ _ _ p.counts p.near _ _)
+    rw (c.lower_near.ensures, c.recount_near.ensures ∙ recounted-is _ _ _ _ _ p.counts p.near _ _)
