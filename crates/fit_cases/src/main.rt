@@ -2,7 +2,7 @@
 // program's example.
 #![tactic(auto)]
 
-use rules::{Cell, Offset, World};
+use rules::{Cell, Offset, Refusal, World};
 use std::io;
 
 const CHEQUER: [u8; 18] = [1, 2, 1, 2, 1, 2, 1, 2, 1, 2, 1, 2, 1, 2, 1, 2, 1, 2];
@@ -11,17 +11,9 @@ fn text(rt: &impl Print, words: &[u8]) -> io::Result<()> {
     rt.write_all(words)
 }
 
-fn digit(rt: &impl Print, n: usize) -> io::Result<()> {
-    let byte = [b'0' + (n % 10) as u8];
-    text(rt, &byte)
-}
-
-fn refused(rt: &impl Print, n: u8) -> io::Result<()> {
+fn refused(rt: &impl Print, refusal: Refusal) -> io::Result<()> {
     text(rt, b" refused ")?;
-    if 9 < n {
-        digit(rt, n as usize / 10)?;
-    }
-    digit(rt, n as usize)?;
+    rt.print(refusal as u64)?;
     text(rt, b"\n")
 }
 
@@ -63,7 +55,7 @@ fn list(
     );
     match answer {
         Ok(set) => colours(rt, set.bits),
-        Err(n) => refused(rt, n),
+        Err(refusal) => refused(rt, refusal),
     }
 }
 
@@ -80,10 +72,10 @@ fn count(
     match answer {
         Ok(n) => {
             text(rt, b" fits ")?;
-            digit(rt, n)?;
+            rt.print(n as u64)?;
             text(rt, b"\n")
         }
-        Err(n) => refused(rt, n),
+        Err(refusal) => refused(rt, refusal),
     }
 }
 
@@ -104,7 +96,7 @@ fn share(
                 text(rt, b" is another number\n")
             }
         }
-        Err(n) => refused(rt, n),
+        Err(refusal) => refused(rt, refusal),
     }
 }
 

@@ -32,32 +32,46 @@ fn print_position(rt: &impl Print, position: ForcedPosition) -> io::Result<()> {
 
 // All eight entries, used or not.
 fn print_positions(rt: &impl Print, found: ForcedPositions) -> io::Result<()> {
-    let entries = found.entries;
-    let mut i = 0;
-    while i < rules::ADDED_ROOM {
-        print_position(rt, entries[i])?;
-        i += 1;
+    for position in &found.entries {
+        print_position(rt, *position)?;
     }
     Ok(())
 }
 
+// What is printed of a refused call: no position.
+const NO_POSITIONS: ForcedPositions = ForcedPositions {
+    entries: [ForcedPosition {
+        coordinates: World(0, 0),
+        colour: 0,
+    }; rules::ADDED_ROOM],
+    len: 0,
+};
+
+// The refusal's number, 0 where the call is accepted, and the positions.
 fn print_forced(rt: &impl Print, answer: Result<ForcedPositions, Refusal>) -> io::Result<()> {
-    let found = answer.found;
+    let (refused, found) = match answer {
+        Ok(found) => (0, found),
+        Err(refusal) => (refusal as usize, NO_POSITIONS),
+    };
     text(rt, b"refused ")?;
-    number(rt, answer.refused as usize)?;
+    number(rt, refused)?;
     text(rt, b", forced ")?;
     number(rt, found.len)?;
     text(rt, b"\n")?;
     print_positions(rt, found)
 }
 
-fn print_dead_end(rt: &impl Print, answer: Result<Option<Cell>, Refusal>, weights: &[u32; 9]) -> io::Result<()> {
+fn print_dead_end(
+    rt: &impl Print,
+    answer: Result<Option<Cell>, Refusal>,
+    weights: &[u32; 9],
+) -> io::Result<()> {
     match answer {
         Ok(Some(cell)) => print_cell(rt, cell, weights),
         Ok(None) => text(rt, b"dead end none\n"),
-        Err(n) => {
+        Err(refusal) => {
             text(rt, b"refused ")?;
-            number(rt, n as usize)?;
+            number(rt, refusal as usize)?;
             text(rt, b"\n")
         }
     }
@@ -70,10 +84,8 @@ fn print_cell(rt: &impl Print, cell: Cell, weights: &[u32; 9]) -> io::Result<()>
     text(rt, b" ")?;
     number(rt, cell.1)?;
     text(rt, b", weight ")?;
-    if cell.0 < 3 {
-        if cell.1 < 3 {
-            word(rt, weights[cell.0 * 3 + cell.1])?;
-        }
+    if cell.0 < 3 && cell.1 < 3 {
+        word(rt, weights[cell.0 * 3 + cell.1])?;
     }
     text(rt, b"\n")
 }
@@ -97,22 +109,20 @@ fn scan_of(rt: &impl Print, pieces: &[u32; 9], weights: &[u32; 9]) -> io::Result
 }
 
 fn within(min: World, max: World) -> Option<BoundingBox> {
-    let corners = BoundingBox { min: min, max: max };
-    Some(corners)
+    Some(BoundingBox { min, max })
 }
 
 fn forced_cases(rt: &impl Print) -> io::Result<()> {
-    let none = None;
     let centre: [u32; 9] = [1, 1, 1, 1, 2, 1, 1, 1, 1];
     text(rt, b"1 laid at (1,1)\n")?;
-    round(rt, &centre, World(1, 1), Offset(0, 0), none)?;
+    round(rt, &centre, World(1, 1), Offset(0, 0), None)?;
     text(rt, b"the same, seen from (0,0)\n")?;
-    round(rt, &centre, World(0, 0), Offset(0, 0), none)?;
+    round(rt, &centre, World(0, 0), Offset(0, 0), None)?;
     text(rt, b"the same, on the wall at (10,20)\n")?;
-    round(rt, &centre, World(11, 21), Offset(-10, -20), none)?;
+    round(rt, &centre, World(11, 21), Offset(-10, -20), None)?;
     text(rt, b"nothing laid\n")?;
     let fresh: [u32; 9] = [1, 1, 1, 1, 1, 1, 1, 1, 1];
-    round(rt, &fresh, World(1, 1), Offset(0, 0), none)
+    round(rt, &fresh, World(1, 1), Offset(0, 0), None)
 }
 
 fn boxed_cases(rt: &impl Print) -> io::Result<()> {
@@ -142,13 +152,7 @@ fn boxed_cases(rt: &impl Print) -> io::Result<()> {
         within(World(0, 0), World(1_000_001, 1)),
     )?;
     text(rt, b"a place off the board\n")?;
-    round(
-        rt,
-        &centre,
-        World(3, 1),
-        Offset(0, 0),
-        None,
-    )
+    round(rt, &centre, World(3, 1), Offset(0, 0), None)
 }
 
 fn scan_cases(rt: &impl Print) -> io::Result<()> {
