@@ -14,6 +14,7 @@ use Rattle.rules.specs.Bounds.{max_board_side}
 use Rattle.rules.specs.Grid.{cell_at, entry_of, distance, laid_on}
 use Rattle.rules.specs.declared.Cell.{Cell}
 use Rattle.rules.specs.declared.Span.{Span}
+use Rattle.rules.specs.declared.Spans.{Spans}
 use Rattle.rules.proofs.Shares.{share-le}
 use Rattle.board_weigh.specs.Added.{sum_over, added_by, row_adds, box_adds}
 
@@ -70,7 +71,6 @@ module _ (pieces : List ℕ) (cols : ℕ) (cell : Cell) where
   unfolding row_adds
   row_low colspan h r = over-low colspan (added_by pieces cols cell r) 3 (added-low r) h
 
-  pub box-low : (rowspan colspan : Span) → rowspan.1 ≤ max_board_side → colspan.1 ≤ max_board_side
-      → box_adds pieces cols cell rowspan colspan ≤ 12288
+  pub box-low : (spans : Spans) → spans.rows.1 ≤ max_board_side → spans.cols.1 ≤ max_board_side → box_adds pieces cols cell spans ≤ 12288
   unfolding box_adds
-  box-low rowspan colspan h k = over-low rowspan (row_adds pieces cols cell colspan) 192 (row_low colspan k) h
+  box-low spans h k = over-low spans.rows (row_adds pieces cols cell spans.cols) 192 (row_low spans.cols k) h

@@ -19,14 +19,19 @@ use Rattle.rules.specs.Grid.{cell_at, entry_of, cell_with, gap, distance, laid_o
 use Rattle.rules.specs.Board.{share, reach, weights_of}
 use Rattle.rules.specs.declared.Cell.{Cell}
 use Rattle.rules.specs.declared.Span.{Span}
+use Rattle.rules.specs.declared.Spans.{Spans}
 use Rattle.rules.proofs.Shares.{share-far}
 use Rattle.board_near.specs.Near.{OnPlane, Nearby}
 use Rattle.board_near.proofs.Nearby.{near-far}
-use Rattle.board_weigh.specs.Added.{near_span, sum_over, added_by, row_adds, box_adds}
+use Rattle.board_weigh.specs.Added.{near_span, near_spans, sum_over, added_by, row_adds, box_adds}
 
 -- the span round an index ends with the side or before
 pub near-ends : {span : Span} {side : ℕ} (x : ℕ) → span ≡ near_span x side → span.1 ≤ side
 near-ends {span} {side} x e = let to : span.1 ≡ min (x + 3) side = ap (λ (s : Span). s.1) e in omega (arith, min-le_right (x + 3) side)
+
+pub both-near : {r c : Span} (rows cols : ℕ) (cell : Cell) → r ≡ near_span cell.0 rows → c ≡ near_span cell.1 cols
+    → ◌≡◌ {A = Spans} (record { rows = r; cols = c }) (near_spans rows cols cell)
+both-near rows cols cell p q = rw (p, q)
 
 -- the distance is the same both ways
 distance-both : (j k : Cell) → distance j k ≡ distance k j
@@ -44,7 +49,7 @@ module _ (pieces : List ℕ) (rows cols : ℕ) (cell : Cell) (on : OnPlane piece
   unfolding flat adds
   adds-is r c h = rw (row_of r h, col-of r h, row_of cell.0 on.colwise, col-of cell.0 on.colwise)
 
-  nearby : Nearby rows cols cell (near_span cell.0 rows) (near_span cell.1 cols)
+  nearby : Nearby rows cols cell (near_spans rows cols cell)
   nearby = record { top = refl; bottom = refl; left = refl; right = refl }
 
   boxed : (r c : ℕ) → inside (cell.0 - 2) (min (cell.0 + 3) rows) (cell.1 - 2) (min (cell.1 + 3) cols) r c ≡ true
@@ -71,13 +76,13 @@ module _ (pieces : List ℕ) (rows cols : ℕ) (cell : Cell) (on : OnPlane piece
       (λ e.
       let k : ℕ = r * cols + c in
       let far : 2 < distance cell (cell_with cols k) =
-      near-far rows cols cell _ _ nearby k (omega arith) (cell-lt r< c<) (rw (row_of r c<, col-of r c<) e) in
+      near-far rows cols cell _ nearby k (omega arith) (cell-lt r< c<) (rw (row_of r c<, col-of r c<) e) in
       nothing (rw (distance-both (cell_at r c) cell) (share-far _ (rw (row_of r c<, col-of r c<) at far))))
     where
       nothing : share (distance (cell_at r c) cell) ≡ 0 → added_by pieces cols cell r c ≡ 0
       nothing e = by-test (laid_on pieces (entry_of cols (cell_at r c))) (λ t. rw t e) (λ t. rw t)
 
-  near-weight : sum (rows * cols) adds ≡ box_adds pieces cols cell (near_span cell.0 rows) (near_span cell.1 cols)
+  near-weight : sum (rows * cols) adds ≡ box_adds pieces cols cell (near_spans rows cols cell)
   unfolding box_adds row_adds sum_over
   near-weight =
       sum-box rows cols (cell.0 - 2) tall (cell.1 - 2) wide adds below right
@@ -97,10 +102,10 @@ module _ (pieces : List ℕ) (rows cols : ℕ) (cell : Cell) (on : OnPlane piece
       right : cell.1 - 2 + wide ≤ cols
       right = omega (arith, on.colwise, min-le_right (cell.1 + 3) cols)
 
-  pub weight_is : {n : ℕ} {rowspan colspan : Span} → rowspan ≡ near_span cell.0 rows → colspan ≡ near_span cell.1 cols
-      → n ≡ box_adds pieces cols cell rowspan colspan → 1 + n ≡ get_or (weights_of (flat rows cols) pieces) (entry_of cols cell) 0
+  pub weight_is : {n : ℕ} {spans : Spans} → spans ≡ near_spans rows cols cell → n ≡ box_adds pieces cols cell spans
+      → 1 + n ≡ get_or (weights_of (flat rows cols) pieces) (entry_of cols cell) 0
   unfolding weights_of adds
-  weight_is p q e =
+  weight_is p e =
       let here : entry_of cols cell < length pieces = omega (arith, on.long, cell-lt on.rowwise on.colwise) in
-      ap (λ (m : ℕ). 1 + m) (e ∙ rw (p, q) (sym near-weight) ∙ ap (λ (m : ℕ). sum m adds) (sym on.long))
+      ap (λ (m : ℕ). 1 + m) (e ∙ rw p (sym near-weight) ∙ ap (λ (m : ℕ). sum m adds) (sym on.long))
       ∙ sym (get_d-tab (length pieces) _ (entry_of cols cell) 0 here)

@@ -7,10 +7,15 @@ use Rattle.rules.specs.Grid.{cell_at, entry_of, distance, laid_on}
 use Rattle.rules.specs.Board.{share}
 use Rattle.rules.specs.declared.Cell.{Cell}
 use Rattle.rules.specs.declared.Span.{Span}
+use Rattle.rules.specs.declared.Spans.{Spans}
 
 -- the span of radius 2 round an index of a side, its end clipped to the side
 abbrev pub near_span : ℕ → ℕ → Span
 near_span x side = record { 0 = x - 2; 1 = min (x + 3) side }
+
+-- the spans of radius 2 round a cell
+abbrev pub near_spans : ℕ → ℕ → Cell → Spans
+near_spans rows cols cell = record { rows = near_span cell.0 rows; cols = near_span cell.1 cols }
 
 -- f over the indices of a span, added up
 unfoldable pub sum_over : Span → (ℕ → ℕ) → ℕ
@@ -24,8 +29,8 @@ added_by pieces cols cell r c = pick (laid_on pieces (entry_of cols (cell_at r c
 unfoldable pub row_adds : List ℕ → ℕ → Cell → Span → ℕ → ℕ
 row_adds pieces cols cell colspan r = sum_over colspan (added_by pieces cols cell r)
 
-unfoldable pub box_adds : List ℕ → ℕ → Cell → Span → Span → ℕ
-box_adds pieces cols cell rowspan colspan = sum_over rowspan (row_adds pieces cols cell colspan)
+unfoldable pub box_adds : List ℕ → ℕ → Cell → Spans → ℕ
+box_adds pieces cols cell spans = sum_over spans.rows (row_adds pieces cols cell spans.cols)
 
 -- a row of a plane in bounds, and a plane in bounds
 pub record InRow (pieces : List ℕ) (cols row : ℕ) : Type 0 where

@@ -17,11 +17,7 @@ fn near_span(x: usize, side: usize) -> Span
     requires { x ≤ max_board_side }
     ensures { result ≡ near_span x side }
 {
-    let to = places::least(x + 3, side);
-    if x < 2 {
-        return Span(0, to);
-    }
-    Span(x - 2, to)
+    Span(x.saturating_sub(2), (x + 3).min(side))
 }
 
 // What stands on (row, col) adds to the weight of `cell`: nothing where it is bare.
@@ -44,32 +40,22 @@ fn row_adds(pieces: &[u32], cols: usize, cell: Cell, row: usize, colspan: Span) 
     ensures { result ≡ row_adds pieces.now cols cell colspan row }
 {
     let mut sum = 0;
-    let mut col = colspan.0;
-    while col < colspan.1 {
+    for col in colspan.0..colspan.1 {
         sum += added_by(pieces, cols, cell, row, col);
-        col += 1;
     }
     sum
 }
 
 // What stands in the rows and the columns of the spans adds.
-fn box_adds(
-    pieces: &[u32],
-    rows: usize,
-    cols: usize,
-    cell: Cell,
-    spans: Spans,
-) -> u32
+fn box_adds(pieces: &[u32], rows: usize, cols: usize, cell: Cell, spans: Spans) -> u32
     requires in_board { InBoard pieces.now rows cols }
     requires rowspan_le_rows { spans.rows.1 ≤ rows }
     requires colspan_le_cols { spans.cols.1 ≤ cols }
-    ensures { result ≡ box_adds pieces.now cols cell spans.rows spans.cols }
+    ensures { result ≡ box_adds pieces.now cols cell spans }
 {
     let mut sum = 0;
-    let mut row = spans.rows.0;
-    while row < spans.rows.1 {
+    for row in spans.rows.0..spans.rows.1 {
         sum += row_adds(pieces, cols, cell, row, spans.cols);
-        row += 1;
     }
     sum
 }
@@ -78,7 +64,9 @@ pub fn weight_at(pieces: &[u32], rows: usize, cols: usize, cell: Cell) -> u32
     requires { OnPlane pieces.now rows cols cell }
     ensures { result ≡ get_or (weights_of (flat rows cols) pieces.now) (entry_of cols cell) 0 }
 {
-    let rowspan = near_span(cell.0, rows);
-    let colspan = near_span(cell.1, cols);
-    1 + box_adds(pieces, rows, cols, cell, rowspan, colspan)
+    let spans = Spans {
+        rows: near_span(cell.0, rows),
+        cols: near_span(cell.1, cols),
+    };
+    1 + box_adds(pieces, rows, cols, cell, spans)
 }

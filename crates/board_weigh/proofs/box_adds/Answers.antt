@@ -26,7 +26,7 @@ pub overflow_add-sum : goal.overflow_add-sum
 overflow_add-sum c =
     let l = c.loop-row in
     let a = c.args in
-    let low = row_low a.pieces.now a.cols a.cell a.colspan (omega arith) in
+    let low = row_low a.pieces.now a.cols a.cell a.spans.cols (omega arith) in
     record { fits = omega (arith, adding-low _ _ l.invariant 192 low (omega arith), c.row_adds-sum.ensures, low l.row) }
 
 pub loop-row-preserved : goal.loop-row-preserved
