@@ -10,7 +10,7 @@ use Rattle.score_mean.proofs.box_mean.Goals as goal
 
 pub returns : goal.returns
 unfolding score_at mean_of
-returns c =
+returns g c =
     let a = c.args in
     ap (λ (x : Float). over x (float_of ((3 - c.missing.result) * (3 - c.missing-2.result)))) c.box_sum.ensures
     ∙ rw (c.missing.ensures, c.missing-2.ensures, box-length a.cols a.r a.c)

@@ -4,7 +4,6 @@ use Prim.Native.Nat.{ℕ}
 use mathlib.Core.List.{List}
 use native.Mathlib.Omega.{arith}
 use lib.Ieee.{Float}
-use borrow.Author.Rules.{rules}
 use Rattle.base.specs.Tables.{fold}
 use Rattle.base.proofs.Tabled.{fold-append}
 use Rattle.rules.specs.Floats.{zero64}
@@ -15,32 +14,26 @@ use Rattle.score_mean.proofs.box_sum.Goals as goal
 
 pub loop-i-init : goal.loop-i-init
 unfolding fold
-loop-i-init c =
-    let a = c.args in (
-      search rules,
-      search rules,
-      sym
-          (ap (λ (l : List ℕ). fold (plus_term (term_of a.squared a.counts.now a.tiles)) zero64 l)
-          (ap (λ (n : ℕ). box_rows n a.cols a.r a.c) c.missing-i.ensures ∙ rows_none a.cols a.r a.c)),
-    )
+loop-i-init g c =
+    let a = c.args in
+    sym
+    (ap (λ (l : List ℕ). fold (plus_term (term_of g.T.Term.of a.counts.now a.tiles)) zero64 l)
+    (ap (λ (n : ℕ). box_rows n a.cols a.r a.c) c.missing-i.ensures ∙ rows_none a.cols a.r a.c))
 
 pub loop-i-preserved : goal.loop-i-preserved
-loop-i-preserved c =
+loop-i-preserved g c =
     let a = c.args in
     let l = c.loop-i in
-    let P = plus_term (term_of a.squared a.counts.now a.tiles) in
-    let so_far = box_rows l.i a.cols a.r a.c in (
-      search rules,
-      search rules,
-      c.add_row-total.ensures
-          ∙ ap (λ (x : Float). fold P x (box_row a.cols a.r a.c l.i)) l.invariant.2
-          ∙ sym (fold-append P zero64 so_far (box_row a.cols a.r a.c l.i))
-          ∙ ap (λ (m : List ℕ). fold P zero64 m) (sym (rows_next a.cols a.r a.c l.i l.invariant.0)),
-    )
+    let P = plus_term (term_of g.T.Term.of a.counts.now a.tiles) in
+    let so_far = box_rows l.i a.cols a.r a.c in
+    c.add_row-total.ensures
+    ∙ ap (λ (x : Float). fold P x (box_row a.cols a.r a.c l.i)) l.invariant
+    ∙ sym (fold-append P zero64 so_far (box_row a.cols a.r a.c l.i))
+    ∙ ap (λ (m : List ℕ). fold P zero64 m) (sym (rows_next a.cols a.r a.c l.i (omega arith)))
 
 pub returns : goal.returns
-returns c =
+returns g c =
     let a = c.args in
     let e : c.loop-i.i ≡ 3 = omega arith in
-    c.loop-i.invariant.2
-    ∙ ap (λ (n : ℕ). fold (plus_term (term_of a.squared a.counts.now a.tiles)) zero64 (box_rows n a.cols a.r a.c)) e
+    c.loop-i.invariant
+    ∙ ap (λ (n : ℕ). fold (plus_term (term_of g.T.Term.of a.counts.now a.tiles)) zero64 (box_rows n a.cols a.r a.c)) e
