@@ -1,32 +1,29 @@
 -- Laws of the sides that pads make: a side compared with its bounds, a length compared with a number of cells, and what the checks give.
 -- Assumes nothing.
-use Prim.Native.Nat.{ℕ, ◌*◌, ◌<◌, ◌≤◌}
+use Prim.Native.Nat.{ℕ, ◌*◌, ◌≤◌}
 use mathlib.Core.Path.{◌≡◌, refl, sym, ◌∙◌}
 use mathlib.Core.Bool.{true, false}
 use lib.Dec.{leb, eqb}
-use borrow.Author.Tests.{lt-leb, le-leb, leb-true, eqb-true, eq-eqb, ne_eqb}
+use borrow.Author.Tests.{le-leb, leb-true, eqb-true, eq-eqb, ne_eqb}
 use Rattle.base.specs.Counting.{within}
 use Rattle.base.specs.Refusal.{refusal}
-use Rattle.base.proofs.Bools.{and-go, and-stop, same_test}
+use Rattle.base.proofs.Bools.{and_left, and_right, and_both, same_test}
 use Rattle.base.proofs.Chain.{all_pass}
 use Rattle.rules.specs.Places.{new_rows, new_cols}
 use Rattle.rules.specs.declared.Pads.{Pads}
 use Rattle.copy_checks.specs.Laid.{size_checks, Sized}
 
--- what the comparisons of a number with a range leave
-module _ (lo hi n : ℕ) where
-  pub below-within : n < lo → false ≡ within lo hi n
-  unfolding within
-  below-within h = and-stop (leb lo n) (leb n hi) (lt-leb lo n h)
+-- two numbers of which the one lies in a range where the other does
+pub same-within : (lo hi a b : ℕ) → ((lo ≤ a) × (a ≤ hi) → (lo ≤ b) × (b ≤ hi)) → ((lo ≤ b) × (b ≤ hi) → (lo ≤ a) × (a ≤ hi))
+    → within lo hi a ≡ within lo hi b
+unfolding within
+same-within lo hi a b f g = same_test (within lo hi a) (within lo hi b) (λ t. into (f (out t))) (λ t. into (g (out t)))
+  where
+    out : {n : ℕ} → within lo hi n ≡ true → (lo ≤ n) × (n ≤ hi)
+    out {n} t = (leb-true lo n (and_left (leb lo n) (leb n hi) t), leb-true n hi (and_right (leb lo n) (leb n hi) t))
 
-  pub is_within : lo ≤ n → leb n hi ≡ within lo hi n
-  unfolding within
-  is_within h = and-go (leb lo n) (leb n hi) (le-leb lo n h) refl
-
--- two numbers that are both up to a bound, or both past it
-pub up-to : {a b : ℕ} (hi : ℕ) → (a ≤ hi → b ≤ hi) → (b ≤ hi → a ≤ hi) → leb a hi ≡ leb b hi
-up-to {a} {b} hi f g =
-    same_test (leb a hi) (leb b hi) (λ t. le-leb b hi (f (leb-true a hi t))) (λ t. le-leb a hi (g (leb-true b hi t)))
+    into : {n : ℕ} → (lo ≤ n) × (n ≤ hi) → within lo hi n ≡ true
+    into {n} h = and_both (leb lo n) (leb n hi) (le-leb lo n h.0) (le-leb n hi h.1)
 
 -- what the comparison of a length with a number of cells leaves, which a function worked out
 pub other_length : {held m : ℕ} (n : ℕ) → (held ≡ m → ⊥) → m ≡ n → eqb held n ≡ false

@@ -15,8 +15,7 @@ use rules::{Pads, Refusal};
 fn side_fits(before: usize, side: usize, after: usize) -> bool
     ensures { result ≡ within 1 max_board_side ((before + side) + after) }
 {
-    let sum = before.saturating_add(side).saturating_add(after);
-    1 <= sum && sum <= rules::MAX_BOARD_SIDE
+    (1..=rules::MAX_BOARD_SIDE).contains(&before.saturating_add(side).saturating_add(after))
 }
 
 pub fn larger_sides(rows: usize, cols: usize, pads: Pads) -> bool
