@@ -3,7 +3,7 @@
 
 ghost use Rattle.rules.specs.Promises.{board_before, board_after, Freshens};
 
-use board_planes::{fill, check_lengths};
+use board_planes::{check_lengths, fill};
 use check_sizes::tile_number_fits;
 use rules::Refusal;
 
