@@ -1,35 +1,20 @@
--- `board_weight_calls::raise_adjacency_weights` meets its contract: refused by its plane, refused by its place, or done. Assumes nothing.
-use mathlib.Core.Path.{◌≡◌, ◌∙◌, ap}
-use Rattle.base.specs.Refusal.{refusal}
-use Rattle.base.proofs.Chain.{chain}
-use Rattle.rules.proofs.Answered.{answers}
+-- `board_weight_calls::raise_adjacency_weights` meets its contract: refused, or done. Assumes nothing.
+use mathlib.Core.Path.{refl, ◌∙◌, ap}
 use Rattle.rules.specs.Grid.{flat, entry_of}
-use Rattle.rules.specs.Board.{raised, weight_checks}
+use Rattle.rules.specs.Board.{raised}
 use Rattle.rules.specs.declared.Cell.{Cell}
-use Rattle.board_near.proofs.Placing.{placing, nearby}
+use Rattle.rules.proofs.Answered.{handed_to, refused, done}
 use Rattle.board_weight_calls.proofs.Leaning.{weighed}
 use Rattle.board_weight_calls.proofs.raise_adjacency_weights.Goals as goal
 
-pub returns-then-no-ne0 : goal.returns-then-no-ne0
-returns-then-no-ne0 c = search (chain, answers) depth 20 fits 5000
-
-pub returns-in_default : goal.returns-in_default
-returns-in_default c = search (chain, answers, placing) depth 20 fits 5000
+pub returns-in_err-spans : goal.returns-in_err-spans
+returns-in_err-spans c = rw (handed_to c.from_residual.ensures refl) (refused _ _ _ _ c.in_err-spans.ensures)
 
 pub raise_near-requires : goal.raise_near-requires
-raise_near-requires c =
-    let a = c.args in
-    -- all checks have passed
-    let made : 0 ≡ refusal (weight_checks a.weights.now a.rows a.cols a.place a.offset) = search (chain, answers, placing) depth 20 fits 5000 in
-    let v = weighed _ _ _ _ _ made in
-    rw c.cell_of-cell.ensures
-    (v.on, nearby _ _ _ _ _ _ _ c.in-Spans.is c.near_spans.ensures, v.light)
+raise_near-requires c = let v = weighed _ _ _ _ _ c.in_ok-spans.ensures.0 in rw c.cell_of.ensures (v.on, c.in_ok-spans.ensures.1, v.light)
 
 pub returns : goal.returns
 returns c =
     let a = c.args in
-    -- all checks have passed
-    let made : 0 ≡ refusal (weight_checks a.weights.now a.rows a.cols a.place a.offset) = search (chain, answers, placing) depth 20 fits 5000 in
-    done _ _ _ made
-    (c.raise_near.ensures
-    ∙ ap (λ (x : Cell). raised (flat a.rows a.cols) (entry_of a.cols x) a.weights.now) c.cell_of-cell.ensures)
+    done _ _ _ _ c.in_ok-spans.ensures.0 refl
+    (c.raise_near.ensures ∙ ap (λ (x : Cell). raised (flat a.rows a.cols) (entry_of a.cols x) a.weights.now) c.cell_of.ensures)
