@@ -11,7 +11,8 @@ use Rattle.base.specs.Refusal.{refusal}
 use Rattle.base.proofs.Bools.{by-test}
 use Rattle.base.proofs.Numbers.{mul-le, cell-is}
 use Rattle.rules.specs.Tests.{board_sides}
-use Rattle.rules.specs.Answers.{Answer, dead_end_answer}
+use Rattle.std.specs.Prelude.{Option, Some, None, Ok}
+use Rattle.rules.specs.Answers.{Answer, answered, if_there}
 use Rattle.rules.specs.Forced.{dead_at, scan_checks, dead_end}
 use Rattle.rules.specs.Grid.{Kind, flat, cell_with}
 use Rattle.rules.specs.declared.Cell.{Cell}
@@ -20,24 +21,17 @@ use Rattle.rules.specs.Board.{Board}
 use Rattle.listing_job.specs.declared.Setup.{Setup}
 use Rattle.listing_lines.specs.Pages.{Prints}
 use Rattle.listing_lines.proofs.Written.{writes_as}
-use Rattle.listing_end.specs.Ending.{refused_line, planes_text, end_text, panel_with, dead_end_text, dead_end_start, none_line, scan_text}
+use Rattle.listing_end.specs.Ending.{planes_text, end_text, panel_with, dead_end_text, dead_end_start, none_line, scan_text}
 use Rattle.listing_end.specs.Near.{Near}
 
 -- ---- the scan, case by case
-pub scan-at : {d : Answer (Option Cell)} (cell : Cell) → d ≡ DeadEnd·.At cell → dead_end_text cell ≡ scan_text d
+pub scan-at : {d : Answer (Option Cell)} (cell : Cell) → d ≡ Ok (Some cell) → dead_end_text cell ≡ scan_text d
 unfolding scan_text
 scan-at cell e = rw e
 
-pub scan-nowhere : {d : Answer (Option Cell)} → d ≡ DeadEnd·.Nowhere → dead_end_start ++ none_line ≡ scan_text d
+pub scan-nowhere : {d : Answer (Option Cell)} → d ≡ Ok None → dead_end_start ++ none_line ≡ scan_text d
 unfolding scan_text
 scan-nowhere e = rw e
-
-pub scan-refused : {d : Answer (Option Cell)} (n : ℕ) → d ≡ DeadEnd·.Refused n → refused_line n ≡ scan_text d
-unfolding scan_text
-scan-refused n e = rw e
-
-pub near-at : {d : Answer (Option Cell)} (cell : Cell) → d ≡ DeadEnd·.At cell → Near d → (cell.0 ≤ 4096) × (cell.1 ≤ 4096)
-near-at cell e h = subst Near e h
 
 pub end_is : {at r : ℕ} {x y : List ℕ} {d : Answer (Option Cell)} (s : Setup) (tiles : List ℕ) (b : Board)
     → d ≡ dead_end flat b.pieces b.weights s.board.rows s.board.cols tiles s.count
@@ -51,7 +45,7 @@ unfolding first
 first-le zero f = omega arith
 first-le (suc n) f = by-test (f 0) (λ e. rw e (omega arith)) (λ e. rw e (omega (arith, first-le n (λ k. f (suc k)))))
 
-near-answer : (n : ℕ) (t : Bool) (cell : Cell) → cell.0 ≤ 4096 → cell.1 ≤ 4096 → Near (dead_end_answer n t cell)
+near-answer : (n : ℕ) (t : Bool) (cell : Cell) → cell.0 ≤ 4096 → cell.1 ≤ 4096 → Near (answered n (if_there t cell))
 near-answer zero true cell h k = (h, k)
 near-answer zero false cell h k = tt
 near-answer (suc n) t cell h k = tt

@@ -1,5 +1,5 @@
 -- Document 01, "Listing program": what stands under the steps' answers, byte by byte: the planes under their headings and the scan.
-use Rattle.std.specs.Prelude.{ℕ, List, [], ◌∷◌, ◌++◌, pos}
+use Rattle.std.specs.Prelude.{Option, Some, None, Ok, Err, ℕ, List, [], ◌∷◌, ◌++◌, pos}
 use Rattle.rules.specs.Bounds.{bare}
 use Rattle.rules.specs.Forced.{dead_end}
 use Rattle.rules.specs.Board.{Panel, Board}
@@ -8,7 +8,7 @@ use Rattle.rules.specs.declared.Cell.{Cell}
 use Rattle.rules.specs.declared.Offset.{Offset}
 use Rattle.listing_job.specs.declared.Setup.{Setup}
 use Rattle.listing_lines.specs.Lines.{decimal, number_line, plane_text}
-use Rattle.rules.specs.Answers.{Answer}
+use Rattle.rules.specs.Answers.{Answer, number}
 
 -- `refused N`
 abbrev pub refused_word : List ℕ
@@ -47,9 +47,9 @@ dead_end_text cell = ((dead_end_start ++ decimal cell.0) ++ 32 ∷ []) ++ number
 
 -- the scan; it is never refused here
 unfoldable pub scan_text : Answer (Option Cell) → List ℕ
-scan_text (DeadEnd·.At cell) = dead_end_text cell
-scan_text DeadEnd·.Nowhere = dead_end_start ++ none_line
-scan_text (DeadEnd·.Refused n) = refused_line n
+scan_text (Ok (Some cell)) = dead_end_text cell
+scan_text (Ok None) = dead_end_start ++ none_line
+scan_text (Err refusal) = refused_line (number refusal)
 
 -- Offset 0: a row and a column are the wall coordinate and the cell index alike
 abbrev pub origin : Offset

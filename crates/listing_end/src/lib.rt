@@ -3,11 +3,12 @@
 
 ghost use Rattle.std.specs.Prelude.{◌≡◌, true, ◌++◌, ◌≤◌};
 ghost use Rattle.rules.specs.Bounds.{max_cells};
+ghost use Rattle.rules.specs.Number.{number};
 ghost use Rattle.rules.specs.Tests.{board_sides};
 ghost use Rattle.rules.specs.Promises.{before, after, board};
 ghost use Rattle.listing_lines.specs.Lines.{plane_text};
 ghost use Rattle.listing_lines.specs.Pages.{Prints};
-ghost use Rattle.listing_end.specs.Ending.{refused_line, planes_text, dead_end_text, scan_text, dead_end_start, none_line, end_text, panel_with};
+ghost use Rattle.listing_end.specs.Ending.{refused_line, planes_text, dead_end_text, scan_text, end_text, panel_with};
 ghost use Rattle.listing_end.specs.Near.{Near};
 
 use listing_job::Setup;
@@ -44,11 +45,11 @@ fn put_planes(
 }
 
 // `refused N`, on a line of its own.
-pub fn put_refused(out: &mut [u8], at: usize, n: u8) -> usize
-    ensures { Prints (refused_line n) at (before out) result (after out) }
+pub fn put_refused(out: &mut [u8], at: usize, refusal: Refusal) -> usize
+    ensures { Prints (refused_line (number refusal)) at (before out) result (after out) }
 {
     let next = listing_lines::put_text(out, at, b"refused ");
-    listing_lines::put_number_line(out, next, n as u32)
+    listing_lines::put_number_line(out, next, u32::from(u8::from(refusal)))
 }
 
 fn put_dead_end(out: &mut [u8], at: usize, cell: Cell) -> usize
@@ -61,20 +62,15 @@ fn put_dead_end(out: &mut [u8], at: usize, cell: Cell) -> usize
     listing_lines::put_number_line(out, col, cell.1 as u32)
 }
 
-fn put_no_dead_end(out: &mut [u8], at: usize) -> usize
-    ensures { Prints (dead_end_start ++ none_line) at (before out) result (after out) }
-{
-    listing_lines::put_text(out, at, b"dead end none\n")
-}
-
+#[tactic(auto, unfolding(crate::specs::Ending::scan_text))]
 fn put_scan(out: &mut [u8], at: usize, found: Result<Option<Cell>, Refusal>) -> usize
     requires { Near found }
     ensures { Prints (scan_text found) at (before out) result (after out) }
 {
     match found {
         Ok(Some(cell)) => put_dead_end(out, at, cell),
-        Ok(None) => put_no_dead_end(out, at),
-        Err(n) => put_refused(out, at, n),
+        Ok(None) => listing_lines::put_text(out, at, b"dead end none\n"),
+        Err(refusal) => put_refused(out, at, refusal),
     }
 }
 
@@ -90,9 +86,14 @@ pub fn put_end(
     requires { board_sides setup.board.rows setup.board.cols ≡ true }
     ensures { Prints (end_text (panel_with setup tiles.now) setup.count (board pieces.now weights.now counts.now)) at (before out) result (after out) }
 {
-    let rows = setup.board.rows;
-    let cols = setup.board.cols;
-    let next = put_planes(out, at, pieces, weights, counts, cols);
-    let found = fit_scan::check_for_contradiction(pieces, weights, rows, cols, tiles, setup.count);
+    let next = put_planes(out, at, pieces, weights, counts, setup.board.cols);
+    let found = fit_scan::check_for_contradiction(
+        pieces,
+        weights,
+        setup.board.rows,
+        setup.board.cols,
+        tiles,
+        setup.count,
+    );
     put_scan(out, next, found)
 }
