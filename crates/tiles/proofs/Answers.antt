@@ -7,13 +7,15 @@ use Rattle.base.specs.Counting.{within}
 use Rattle.base.specs.Refusal.{refusal}
 use Rattle.base.proofs.Bools.{and_left, and_right}
 use Rattle.base.proofs.Numbers.{within-high}
-use Rattle.base.proofs.Chain.{all_pass, refusing, not-refused, stop, go, kept-old, has_new}
+use Rattle.base.proofs.Chain.{all_pass, go, has_new}
 use Rattle.rules.specs.Bounds.{max_sample_side}
 use Rattle.rules.specs.Tests.{sample_sides, tiles_in}
-use Rattle.rules.specs.Answers.{Answer, tile_answer}
-use Rattle.rules.specs.Tiles.{sample_checks, room_check, extraction_checks, extracted, extraction, store_after}
+use Rattle.rules.specs.Answers.{Answer, answered, checked}
+use Rattle.rules.specs.Tiles.{sample_checks, room_check, extraction_checks, extracted, extraction, store_after, store_with}
 use Rattle.rules.specs.Promises.{Extracts}
-use Rattle.rules.proofs.Answered.{tiles-refused}
+use Rattle.rules.proofs.Answered.{refuses, stopped, refused}
+use Rattle.std.specs.Prelude.{Err}
+use Rattle.rules.specs.declared.Refusal.{Refusal}
 use Rattle.check_sizes.proofs.Sides.{long}
 use Rattle.tile_forms.specs.Sample.{Sample}
 use Rattle.tiles.specs.Adding.{Gathers}
@@ -38,13 +40,13 @@ module _ (source : List ℕ) (rows cols count : ℕ) where
     tiles = extracted source rows cols rotations reflections
 
     -- the checks of the sample come before the check of the room
-    pub told-refused : (n : ℕ) → refusing n ≡ true → n ≡ refusal (sample_checks source rows cols count)
-        → Extracts source rows cols count rotations reflections store (Refused n) store
+    pub told-refused : {r : Refusal} → Err r ≡ checked (sample_checks source rows cols count)
+        → Extracts source rows cols count rotations reflections store (Err r) store
     unfolding extraction store_after
-    told-refused n t e =
+    told-refused e =
         record {
-          answered = tiles-refused (extraction_checks source rows cols count rotations reflections store) (tiles_in tiles) n t (stop n _ _ t e);
-          leaves = sym (kept-old (refusal (sample_checks source rows cols count)) _ store (λ z. not-refused n t (e ∙ z)));
+          answered = refuses (extraction_checks source rows cols count rotations reflections store) (tiles_in tiles) (stopped _ _ e);
+          leaves = (refused {A = Unit {0}} (sample_checks source rows cols count) tt (store_with tiles store) store e).leaves;
         }
 
     pub told-gathered : (a : Answer ℕ) (x : List ℕ) → 0 ≡ refusal (sample_checks source rows cols count) → Gathers tiles store a x
@@ -52,6 +54,6 @@ module _ (source : List ℕ) (rows cols count : ℕ) where
     unfolding extraction store_after
     told-gathered a x e w =
         record {
-          answered = w.answered ∙ ap (λ (m : ℕ). tile_answer m (tiles_in tiles)) (go _ (sample_checks source rows cols count) (room_check tiles store) e refl);
+          answered = w.answered ∙ ap (λ (m : ℕ). answered m (tiles_in tiles)) (go _ (sample_checks source rows cols count) (room_check tiles store) e refl);
           leaves = w.leaves ∙ sym (has_new (refusal (sample_checks source rows cols count)) _ store (sym e));
         }

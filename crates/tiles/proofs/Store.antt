@@ -1,7 +1,7 @@
 -- Laws of tile lists and of the store that they are written to, as the code meets them.
 --     held, no_room, put      what adding one tile answers and leaves
---     Kept, kept_from, kept_then   the loop over a run of tiles: how many are kept of those so far, and what the store holds
---     full-end, done_end      the two ways out of it
+--     Kept, kept_none, kept_on   the loop over a run of tiles: how many are kept of those so far, and what the store holds
+--     full_end, done_end      the two ways out of it
 -- Assumes nothing.
 use Prim.Native.Nat.{ℕ, zero, suc, ◌+◌, ◌-◌, ◌*◌, ◌/◌, ◌≤◌, ◌<◌}
 use mathlib.Core.Path.{◌≡◌, refl, sym, ◌∙◌, ap}
@@ -11,16 +11,21 @@ use mathlib.Core.Logic.{⊎_elim}
 use native.Mathlib.Nat.{le_of_suc-le-suc, eq-or-lt_of_le}
 use native.Mathlib.Numerals.{add-one}
 use native.Mathlib.Omega.{arith}
-use lib.ListN.{length, get_or, set, take, drop, replicate, length-take, length-drop, length-append, take-append-drop}
-use lib.Seq.{paste, paste-suc, take_all, take-append-le, length-take-le, drop-drop, drop-append-add, take_at}
+use borrow.Author.Tests.{leb-true, leb-false}
+use lib.Dec.{leb}
+use lib.ListN.{length, get_or, take, drop, replicate, length-take, length-drop, length-append, take-append-drop}
+use lib.Seq.{paste, take_all, take-append-le, length-take-le, drop-drop, drop-append-add, take_at}
+use Rattle.std.specs.Prelude.{Ok, Err}
 use Rattle.base.specs.Counting.{pick}
 use Rattle.base.specs.Refusal.{refusal}
-use Rattle.base.proofs.Bools.{pick_yes, pick_no}
-use Rattle.base.proofs.Chain.{chain}
-use Rattle.rules.proofs.Answered.{answers}
-use Rattle.rules.specs.Bounds.{max_tiles, ROOM}
+use Rattle.base.proofs.Bools.{by-test, pick_yes, pick_no}
+use Rattle.base.proofs.Chain.{chain, all_pass}
+use Rattle.rules.proofs.Answered.{answers, passed, told-by}
+use Rattle.rules.specs.Bounds.{max_tiles}
 use Rattle.rules.specs.Tests.{tiles_in}
-use Rattle.rules.specs.Answers.{tile_answer}
+use Rattle.rules.specs.Answers.{Answer, answered}
+use Rattle.rules.specs.declared.Refusal.{Refusal}
+use Rattle.rules.specs.declared.Refusal.TheVariants as Refusal·
 use Rattle.rules.specs.Tiles.{has_tile, with_tile, distinct, store_with, room_check}
 use Rattle.tile_seen.specs.Chains.{buckets, bucket_of, Chained, Notes}
 use Rattle.tile_seen.proofs.Buckets.{chained-none, chained_more}
@@ -33,9 +38,29 @@ store-all : (l d : List ℕ) → length l ≤ tiles_in d * 9 → store_with l d 
 unfolding store_with
 store-all l d h = rw (take_all (tiles_in d * 9) l h)
 
--- a turn of the loop that writes a tile
-pub put-turn : (d e t : List ℕ) (at k : ℕ) → e ≡ paste d at t k → at + k < length d → k < length t → set e (at + k) (get_or t k 0) ≡ paste d at t (k + 1)
-put-turn d e t at k p h l = rw (p, add-one) (paste-suc d at t k 0 h l)
+-- whether they fit says what is answered
+room-answer : (l d : List ℕ) → tiles_in d < tiles_in l → Err Refusal·.Room ≡ answered (refusal (room_check l d)) (tiles_in l)
+room-answer l d h = search (chain, answers)
+
+tiles-answer : (l d : List ℕ) (n : ℕ) → length l ≡ n * 9 → n ≤ tiles_in d → Ok n ≡ answered (refusal (room_check l d)) (tiles_in l)
+tiles-answer l d n e h =
+    let few : tiles_in l ≤ tiles_in d = omega arith in
+    let count : n ≡ tiles_in l = omega arith in
+    search (chain, answers)
+
+-- and the answer says whether they fit
+fits-answered : (l d : List ℕ) {x : Answer ℕ} {n : ℕ} → x ≡ answered (refusal (room_check l d)) (tiles_in l) → x ≡ Ok n → (tiles_in l ≤ tiles_in d) × (n ≡ tiles_in l)
+fits-answered l d e was =
+    let h = all_pass (room_check l d) refl (sym (passed (room_check l d) (tiles_in l) e was)) in
+    (leb-true (tiles_in l) (tiles_in d) h, told-by (room_check l d) (tiles_in l) e was)
+
+room-answered : (l d : List ℕ) {x : Answer ℕ} {r : Refusal} → x ≡ answered (refusal (room_check l d)) (tiles_in l) → x ≡ Err r → (◌≡◌ {A = Answer ℕ} (Err r) (Err Refusal·.Room)) × (tiles_in d < tiles_in l)
+unfolding refusal
+room-answered l d {r = r} e was =
+    by-test (leb (tiles_in l) (tiles_in d)) (λ t. absurd (no-refusal (sym was ∙ (rw t at e)))) (λ t. (sym was ∙ (rw t at e), leb-false (tiles_in l) (tiles_in d) t))
+  where
+    no-refusal : {n : ℕ} → Err r ≡ Ok n → ⊥
+    no-refusal q = cc
 
 -- ---- one tile more: it is there, there is no room for it, or it is put behind the others
 module _ (d t heads nexts : List ℕ) (n : ℕ) (fine : n ≤ tiles_in d) (few : n < max_tiles) (nine : length t ≡ 9) (c : Chained (take (n * 9) d) heads nexts) where
@@ -45,13 +70,16 @@ module _ (d t heads nexts : List ℕ) (n : ℕ) (fine : n ≤ tiles_in d) (few :
   more : length (take (n * 9) d ++ t) ≡ n * 9 + 9
   more = simp (length-append, own, nine)
 
-  pub held : has_tile (take (n * 9) d) t ≡ true → Adds d n t n d heads nexts
+  pub held : has_tile (take (n * 9) d) t ≡ true → Adds d n t (Ok n) d heads nexts
   unfolding with_tile
   held e =
       let w : with_tile (take (n * 9) d) t ≡ take (n * 9) d = pick_yes (has_tile (take (n * 9) d) t) (take (n * 9) d) (take (n * 9) d ++ t) e in
       record {
-        counted = rw w (omega (arith, own));
-        stored = rw w (sym (store-all (take (n * 9) d) d (omega (arith, own)) ∙ ap (λ (m : ℕ). take (n * 9) d ++ drop m d) own ∙ take-append-drop (n * 9) d));
+        gathered =
+            record {
+              answered = rw w (tiles-answer (take (n * 9) d) d n own fine);
+              leaves = rw w (sym (store-all (take (n * 9) d) d (omega (arith, own)) ∙ ap (λ (m : ℕ). take (n * 9) d ++ drop m d) own ∙ take-append-drop (n * 9) d));
+            };
         chained = λ l. rw w c;
       }
 
@@ -60,32 +88,38 @@ module _ (d t heads nexts : List ℕ) (n : ℕ) (fine : n ≤ tiles_in d) (few :
     unfolding with_tile
     grown = pick_no (has_tile (take (n * 9) d) t) (take (n * 9) d) (take (n * 9) d ++ t) e
 
-    pub no_room : length d - n * 9 < 9 → Adds d n t (n + 1) d heads nexts
+    pub no_room : length d - n * 9 < 9 → Adds d n t (Err Refusal·.Room) d heads nexts
     unfolding store_with
     no_room h =
         let q : n ≡ tiles_in d = omega arith in
         let f : take (tiles_in d * 9) (take (n * 9) d ++ t) ≡ take (n * 9) d =
         ap (λ (m : ℕ). take (m * 9) (take (n * 9) d ++ t)) (sym q) ∙ take_at (take (n * 9) d) t (n * 9) own in
         record {
-          counted = rw grown (omega (arith, more));
-          stored = rw (grown, f, own) (sym (take-append-drop (n * 9) d));
-          chained = λ l. absurd (out l q);
+          gathered =
+              record {
+                answered = rw grown (room-answer (take (n * 9) d ++ t) d (omega (arith, more)));
+                leaves = rw (grown, f, own) (sym (take-append-drop (n * 9) d));
+              };
+          chained = λ l. absurd (out q (ap tiles_in grown) l);
         }
       where
-        out : {a b : ℕ} → a + 1 ≤ b → a ≡ b → ⊥
-        out p q = omega arith
+        out : {m : ℕ} → n ≡ tiles_in d → m ≡ tiles_in (take (n * 9) d ++ t) → m ≤ tiles_in d → ⊥
+        out q e l = omega (arith, more)
 
     pub put : (b : ℕ) (x heads' nexts' : List ℕ) → 9 ≤ length d - n * 9 → (b ≡ bucket_of (λ k. get_or t k 0)) × (b < buckets) → x ≡ paste d (n * 9) t 9
-        → Notes n b heads nexts heads' nexts' → Adds d n t (n + 1) x heads' nexts'
+        → Notes n b heads nexts heads' nexts' → Adds d n t (Ok (n + 1)) x heads' nexts'
     put b x heads' nexts' h k p w =
         record {
-          counted = rw grown (omega (arith, more));
-          stored =
-              rw grown
-              (p
-              ∙ sym (store-all (take (n * 9) d ++ t) d (omega (arith, more))
-              ∙ ap (λ (j : ℕ). (take (n * 9) d ++ t) ++ drop j d) more
-              ∙ ap (λ (y : List ℕ). (take (n * 9) d ++ y) ++ drop (n * 9 + 9) d) (sym (take_all 9 t (omega arith)))));
+          gathered =
+              record {
+                answered = rw grown (tiles-answer (take (n * 9) d ++ t) d (n + 1) (more ∙ omega arith) (omega arith));
+                leaves =
+                    rw grown
+                    (p
+                    ∙ sym (store-all (take (n * 9) d ++ t) d (omega (arith, more))
+                    ∙ ap (λ (j : ℕ). (take (n * 9) d ++ t) ++ drop j d) more
+                    ∙ ap (λ (y : List ℕ). (take (n * 9) d ++ y) ++ drop (n * 9 + 9) d) (sym (take_all 9 t (omega arith)))));
+              };
           chained = λ l. rw (grown, w.heading, w.linking) (chained_more (take (n * 9) d) t heads nexts n b c own nine few k.1 k.0);
         }
 
@@ -155,9 +189,9 @@ pub record Kept (f : ℕ → List ℕ) (d : List ℕ) (v n : ℕ) (x heads nexts
   pub stored : x ≡ store_with (distinct v f) d
   pub chained : Chained (distinct v f) heads nexts
 
-kept-none : (f : ℕ → List ℕ) (d : List ℕ) → Kept f d 0 0 d (replicate buckets 0) (replicate max_tiles 0)
+pub kept_none : (f : ℕ → List ℕ) (d : List ℕ) → Kept f d 0 0 d (replicate buckets 0) (replicate max_tiles 0)
 unfolding distinct
-kept-none f d =
+kept_none f d =
     record {
       whole = refl;
       fitted = omega arith;
@@ -167,9 +201,6 @@ kept-none f d =
       chained = chained-none;
     }
 
-pub kept_from : (f : ℕ → List ℕ) (d : List ℕ) (v : ℕ) → v ≡ 0 → Kept f d v 0 d (replicate buckets 0) (replicate max_tiles 0)
-kept_from f d v e = rw e (kept-none f d)
-
 module _ (f : ℕ → List ℕ) (d : List ℕ) (v n : ℕ) (x heads nexts : List ℕ) (k : Kept f d v n x heads nexts) where
   -- the tiles kept so far are those at the store's head
   pub kept_back : take (n * 9) x ≡ distinct v f
@@ -178,66 +209,49 @@ module _ (f : ℕ → List ℕ) (d : List ℕ) (v n : ℕ) (x heads nexts : List
   pub kept-chained : Chained (take (n * 9) x) heads nexts
   kept-chained = rw kept_back k.chained
 
-  module _ (t : List ℕ) (r : ℕ) (y heads' nexts' : List ℕ) (here : t ≡ f v) (nine : length t ≡ 9) (told : Adds x n t r y heads' nexts') where
+  module _ (t : List ℕ) {x' : Answer ℕ} (y heads' nexts' : List ℕ) (here : t ≡ f v) (nine : length t ≡ 9) (told : Adds x n t x' y heads' nexts') where
     is-more : with_tile (take (n * 9) x) t ≡ distinct (v + 1) f
     is-more = rw (kept_back, here) (sym (distinct_more f v))
 
-    kept-count : r ≡ tiles_in (distinct (v + 1) f)
-    kept-count = rw is-more at told.counted
+    kept-answer : x' ≡ answered (refusal (room_check (distinct (v + 1) f) x)) (tiles_in (distinct (v + 1) f))
+    kept-answer = rw is-more at told.gathered.answered
 
     kept-size : (m : ℕ) × (length (distinct (v + 1) f) ≡ m * 9) × (n ≤ m) × (m ≤ n + 1)
     kept-size = rw (distinct_more f v) (with-length (distinct v f) (f v) (ap length (sym here) ∙ nine) n k.whole)
 
     kept_store : y ≡ store_with (distinct (v + 1) f) d
     kept_store =
-        told.stored ∙ ap (λ (l : List ℕ). store_with l x) is-more
+        told.gathered.leaves ∙ ap (λ (l : List ℕ). store_with l x) is-more
         ∙ ap (λ (z : List ℕ). store_with (distinct (v + 1) f) z) k.stored
         ∙ store-over (distinct v f) (distinct (v + 1) f) d (omega (arith, k)) (omega (arith, k, kept-size))
 
-    kept_on : r ≤ tiles_in d → length y ≡ length d → Kept f d (v + 1) r y heads' nexts'
-    kept_on h e =
+    -- one tile more was kept, or was there
+    pub kept_on : {r : ℕ} → x' ≡ Ok r → length y ≡ length d → Kept f d (v + 1) r y heads' nexts'
+    kept_on was e =
+        let told-fits = fits-answered (distinct (v + 1) f) x kept-answer was in
         record {
-          whole = omega (arith, kept-count, kept-size);
-          fitted = h;
-          few = omega (arith, kept-count, kept-size, k);
+          whole = omega (arith, told-fits, kept-size);
+          fitted = omega (arith, told-fits, k.same);
+          few = omega (arith, told-fits, kept-size, k);
           same = e;
           stored = kept_store;
-          chained = rw (sym is-more) (told.chained (omega (arith, k.same)));
+          chained = rw (sym is-more) (told.chained (rw is-more told-fits.0));
         }
 
-    pub kept_then : r ≤ tiles_in d → length y ≡ length d → (w : ℕ) → v + 1 ≡ w → Kept f d w r y heads' nexts'
-    kept_then h e w q = rw q at (kept_on h e)
-
     -- where they no longer fit, what the store holds is final
-    kept_full : (m : ℕ) → v + 1 ≤ m → tiles_in d < r → (tiles_in d < tiles_in (distinct m f)) × (y ≡ store_with (distinct m f) d)
+    pub full_end : {r : Refusal} (m : ℕ) → x' ≡ Err r → v < m → Gathers (distinct m f) d (Err r) y
     unfolding store_with
-    kept_full m h g =
-        let w = distinct-grows f (v + 1) m h in
+    full_end m was h =
+        let g = room-answered (distinct (v + 1) f) x kept-answer was in
+        let w = distinct-grows f (v + 1) m (omega arith) in
         let e : take (tiles_in d * 9) (distinct m f) ≡ take (tiles_in d * 9) (distinct (v + 1) f) =
-        ap (take (tiles_in d * 9)) w.1 ∙ take-append-le (tiles_in d * 9) (distinct (v + 1) f) w.0 (omega (arith, kept-count, kept-size)) in (
-          omega (arith, kept-count, ap length w.1, length-append (distinct (v + 1) f) w.0),
-          kept_store ∙ ap (λ (l : List ℕ). l ++ drop (length l) d) (sym e),
-        )
+        ap (take (tiles_in d * 9)) w.1 ∙ take-append-le (tiles_in d * 9) (distinct (v + 1) f) w.0 (omega (arith, g.1, k.same, kept-size)) in
+        record {
+          answered = g.0 ∙ room-answer (distinct m f) d (omega (arith, g.1, k.same, ap length w.1, length-append (distinct (v + 1) f) w.0));
+          leaves = kept_store ∙ ap (λ (l : List ℕ). l ++ drop (length l) d) (sym e);
+        }
 
--- ---- the two ends
-room-answer : (l d : List ℕ) → tiles_in d < tiles_in l → Refused ROOM ≡ tile_answer (refusal (room_check l d)) (tiles_in l)
-room-answer l d h = search (chain, answers)
-
-tiles-answer : (l d : List ℕ) (n : ℕ) → length l ≡ n * 9 → n ≤ tiles_in d → Tiles n ≡ tile_answer (refusal (room_check l d)) (tiles_in l)
-tiles-answer l d n e h =
-    let few : tiles_in l ≤ tiles_in d = omega arith in
-    let count : n ≡ tiles_in l = omega arith in
-    search (chain, answers)
-
-module _ (f : ℕ → List ℕ) (d : List ℕ) (v n : ℕ) (x heads nexts : List ℕ) (k : Kept f d v n x heads nexts) (total m : ℕ) (all : total ≡ m) where
-  pub full-end : (t : List ℕ) (r : ℕ) (y heads' nexts' : List ℕ) → t ≡ f v → length t ≡ 9 → Adds x n t r y heads' nexts' → v < total → tiles_in d < r
-      → Gathers (distinct m f) d (Refused ROOM) y
-  full-end t r y heads' nexts' here nine told h g =
-      let w = kept_full f d v n x heads nexts k t r y heads' nexts' here nine told m (omega arith) g in
-      record { answered = room-answer (distinct m f) d w.0; leaves = w.1 }
-
-  pub done_end : v ≤ total → total ≤ v → Gathers (distinct m f) d (Tiles n) x
-  done_end h g =
-      let e : v ≡ m = omega arith in
+  pub done_end : (m : ℕ) → v ≡ m → Gathers (distinct m f) d (Ok n) x
+  done_end m e =
       let w : Kept f d m n x heads nexts = rw e at k in
       record { answered = tiles-answer (distinct m f) d n w.whole w.fitted; leaves = w.stored }

@@ -3,7 +3,6 @@
 #![tactic(auto)]
 
 ghost use Rattle.std.specs.Prelude.{◌≡◌, ◌+◌, ◌*◌, ◌<◌, ◌≤◌, length, take};
-ghost use Rattle.std.proofs.Math.Seq.{paste};
 ghost use Rattle.rules.specs.Answers.{checked};
 ghost use Rattle.rules.specs.Bounds.{max_tiles};
 ghost use Rattle.rules.specs.Promises.{before, after, Extracts};
@@ -19,40 +18,28 @@ mod membership;
 
 pub use membership::convert_tile_to_membership_booleans;
 
-fn put_tile(store: &mut [u8], at: usize, tile: &[u8; rules::TILE_CELLS])
-    requires { (at + 9 ≤ length store.old) × (length tile.now ≡ 9) }
-    ensures { after store ≡ paste (before store) at tile.now 9 }
-{
-    let mut k = 0;
-    while k < rules::TILE_CELLS {
-        store[at + k] = tile[k];
-        k += 1;
-    }
-}
-
-// Adds a tile to the n tiles of the store, unless they have it or there is no room for it whole. Answers how many there are then to be
-// kept: one more than fit, where there is no room.
+// Adds a tile to the n tiles of the store, unless they have it or there is no room for it whole. Answers how many there are then.
 fn add_tile(
     store: &mut [u8],
     heads: &mut [u16; tile_seen::BUCKETS],
     nexts: &mut [u16; rules::MAX_TILES],
     n: usize,
     tile: &[u8; rules::TILE_CELLS],
-) -> usize
+) -> Result<usize, Refusal>
     requires { (n ≤ tiles_in store.old) × (n < max_tiles) × (length tile.now ≡ 9) × Chained (take (n * 9) store.old) heads.old nexts.old }
     ensures { Adds (before store) n tile.now result (after store) (after heads) (after nexts) }
 {
     let at = n * rules::TILE_CELLS;
     let bucket = tile_seen::bucket_of(tile);
     if tile_seen::has_tile(&store[..at], heads, nexts, tile, bucket) {
-        return n;
+        return Ok(n);
     }
     if store.len() - at < rules::TILE_CELLS {
-        return n + 1;
+        return Err(Refusal::Room);
     }
-    put_tile(store, at, tile);
+    store[at..at + rules::TILE_CELLS].copy_from_slice(tile);
     tile_seen::note_tile(heads, nexts, n, bucket);
-    n + 1
+    Ok(n + 1)
 }
 
 // Gathers the distinct tiles of a sample that passed its checks, from the first variant on, so that the first of equal tiles is kept. The
@@ -69,19 +56,12 @@ fn gather(
     ensures { Gathers (extracted source.now rows cols rotations reflections) (before store) result (after store) }
 {
     let total = tile_forms::variants_of(rows, cols, rotations, reflections);
-    let room = store.len() / rules::TILE_CELLS;
     let mut heads = [0u16; tile_seen::BUCKETS];
     let mut nexts = [0u16; rules::MAX_TILES];
     let mut n = 0;
-    let mut left = total;
-    while 0 < left {
-        let tile = tile_forms::variant_of(source, rows, cols, rotations, reflections, total - left);
-        let kept = add_tile(store, &mut heads, &mut nexts, n, &tile);
-        if room < kept {
-            return Err(Refusal::Room);
-        }
-        n = kept;
-        left -= 1;
+    for v in 0..total {
+        let tile = tile_forms::variant_of(source, rows, cols, rotations, reflections, v);
+        n = add_tile(store, &mut heads, &mut nexts, n, &tile)?;
     }
     Ok(n)
 }

@@ -12,15 +12,16 @@ fn colours_of(tile: [u8; rules::TILE_CELLS], count: u32) -> u32
     ensures { result ≡ bits_of count (λ t. some 9 (λ k. eqb t (get_or tile k 0))) }
 {
     let mut bits: u32 = 0;
-    let mut k = 0;
-    while k < rules::TILE_CELLS {
-        bits = bitset_colours::with_colour(bits, tile[k] as u32);
-        k += 1;
+    for cell in &tile {
+        bits = bitset_colours::with_colour(bits, u32::from(*cell));
     }
     bits
 }
 
-pub fn convert_tile_to_membership_booleans(tile: [u8; rules::TILE_CELLS], count: u32) -> Result<TileBitset, Refusal>
+pub fn convert_tile_to_membership_booleans(
+    tile: [u8; rules::TILE_CELLS],
+    count: u32,
+) -> Result<TileBitset, Refusal>
     ensures { result ≡ membership tile count }
 {
     if !check_sizes::colour_count(count) {
@@ -29,9 +30,8 @@ pub fn convert_tile_to_membership_booleans(tile: [u8; rules::TILE_CELLS], count:
     if !check_contents::no_byte_above(&tile, count) {
         return Err(Refusal::Cell);
     }
-    let bits = colours_of(tile, count);
     Ok(TileBitset {
-        bits: bits,
+        bits: colours_of(tile, count),
         size: count,
     })
 }

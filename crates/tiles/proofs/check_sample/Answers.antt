@@ -14,8 +14,8 @@ pub overflow_mul-rows : goal.overflow_mul-rows
 overflow_mul-rows c =
     let s = sides-few _ _ (sym c.sample_sides.ensures ∙ c.if-not-sample_sides.false) in record { fits = omega (arith, mul-le s.0 s.1) }
 
-pub returns-then-not-bytes_have_length : goal.returns-then-not-bytes_have_length
-returns-then-not-bytes_have_length c = search (chain, answers) depth 20 fits 5000
+pub returns-then-not-has_length : goal.returns-then-not-has_length
+returns-then-not-has_length c = search (chain, answers) depth 20 fits 5000
 
 pub returns-then-not-colour_count : goal.returns-then-not-colour_count
 returns-then-not-colour_count c = search (chain, answers) depth 20 fits 5000

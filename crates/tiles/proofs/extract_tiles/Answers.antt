@@ -1,14 +1,16 @@
 -- `tiles::extract_tiles` meets its contract: a refusal of the sample, or what was gathered. Assumes nothing.
-use Rattle.base.proofs.Chain.{chain, part-passed}
-use Rattle.rules.proofs.Answered.{answers}
+use Rattle.base.proofs.Chain.{chain}
+use Rattle.rules.proofs.Answered.{answers, handed_to, passed}
 use Rattle.tiles.proofs.Answers.{sound, told-refused, told-gathered}
 use Rattle.tiles.proofs.extract_tiles.Goals as goal
 
-pub returns-then-refused-ne0 : goal.returns-then-refused-ne0
-returns-then-refused-ne0 c = search (chain, answers, told-refused) depth 20 fits 5000
+pub returns-in_err-check_sample : goal.returns-in_err-check_sample
+returns-in_err-check_sample c =
+    let g = told-refused _ _ _ _ _ _ _ (search (chain, answers, c.in_err-check_sample.was) depth 20 fits 5000) in
+    record { answered = handed_to c.from_residual.ensures g.answered; leaves = g.leaves }
 
 pub gather-requires : goal.gather-requires
-gather-requires c = sound _ _ _ _ (part-passed _ c.sample_refusal-refused.ensures c.if-refused-ne0.false)
+gather-requires c = sound _ _ _ _ (passed _ _ c.check_sample.ensures c.in_ok-check_sample.was)
 
 pub returns : goal.returns
-returns c = search (chain, answers, told-gathered) depth 20 fits 5000
+returns c = told-gathered _ _ _ _ _ _ _ _ _ (passed _ _ c.check_sample.ensures c.in_ok-check_sample.was) c.gather.ensures

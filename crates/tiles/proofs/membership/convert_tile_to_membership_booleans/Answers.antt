@@ -14,8 +14,8 @@ pub returns-then-not-no_byte_above : goal.returns-then-not-no_byte_above
 unfolding membership
 returns-then-not-no_byte_above c = search (chain, answers) depth 20 fits 5000
 
-pub colours_of-bits-requires : goal.colours_of-bits-requires
-colours_of-bits-requires c =
+pub colours_of-requires : goal.colours_of-requires
+colours_of-requires c =
     (sym c.colour_count.ensures ∙ c.if-not-colour_count.false, sym c.no_byte_above.ensures ∙ c.if-not-no_byte_above.false)
 
 pub returns : goal.returns
