@@ -30,10 +30,10 @@ same-between from to start end x there back =
     (λ e. let h = back (between-low start end x e) (between-high start end x e) in is-between from to x h.0 h.1)
 
 module _ (scores : List Float) (counts : List ℕ) (rows cols tiles : ℕ) (sides : board_sides rows cols ≡ true) (long : length scores ≡ rows * cols) where
-  pub region-scored : (squared : Bool) (rs cs : Span) (falls : ℕ → ℕ → Bool) → ((r c : ℕ) → r < rows → c < cols → lift_falls rs cs r c ≡ falls r c)
-      → region_scored squared counts tiles cols rs cs scores ≡ scored rows cols falls (term_of squared counts tiles) scores
+  pub region-scored : (f : Float → Float) (rs cs : Span) (falls : ℕ → ℕ → Bool) → ((r c : ℕ) → r < rows → c < cols → lift_falls rs cs r c ≡ falls r c)
+      → region_scored f counts tiles cols rs cs scores ≡ scored rows cols falls (term_of f counts tiles) scores
   unfolding region_scored over_region scored score_at
-  region-scored squared rs cs falls same =
+  region-scored f rs cs falls same =
       tab-ext (length scores) _ _
       (λ k h.
       let wide : 0 < cols = (board-cols rows cols sides).0 in

@@ -1,6 +1,6 @@
 -- The scores of the cells of two spans, the cells that the targets of a lay write, and what the functions lean on: the checks that their
 -- callers have made.
-use Rattle.std.specs.Prelude.{ℕ, ◌+◌, min, ◌≡◌, Bool, true, List, length, Float}
+use Rattle.std.specs.Prelude.{ℕ, ◌+◌, min, ◌≡◌, true, List, length, Float}
 use Rattle.std.specs.Float.{nan}
 use Rattle.base.specs.Regions.{RegionFits, over_region}
 use Rattle.rules.specs.Tests.{tile_number_fits}
@@ -8,12 +8,12 @@ use Rattle.rules.specs.declared.Span.{Span}
 use Rattle.score_mean.specs.Box.{score_at}
 
 -- each cell of a region gets its score, whatever it held; the others stay
-abbrev pub score_step : Bool → List ℕ → ℕ → ℕ → ℕ → ℕ → Float → Float
-score_step squared counts tiles cols r c old = score_at squared counts tiles cols r c
+abbrev pub score_step : (Float → Float) → List ℕ → ℕ → ℕ → ℕ → ℕ → Float → Float
+score_step f counts tiles cols r c old = score_at f counts tiles cols r c
 
-unfoldable pub region_scored : Bool → List ℕ → ℕ → ℕ → Span → Span → List Float → List Float
-region_scored squared counts tiles cols rowspan colspan scores =
-    over_region nan (score_step squared counts tiles cols) cols rowspan.0 rowspan.1 colspan.0 colspan.1 scores
+unfoldable pub region_scored : (Float → Float) → List ℕ → ℕ → ℕ → Span → Span → List Float → List Float
+region_scored f counts tiles cols rowspan colspan scores =
+    over_region nan (score_step f counts tiles cols) cols rowspan.0 rowspan.1 colspan.0 colspan.1 scores
 
 -- the cells one further down or right than the targets of a lay, as far as the side goes
 abbrev pub past_targets : ℕ → Span → Span

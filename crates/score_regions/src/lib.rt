@@ -10,12 +10,11 @@ ghost use Rattle.rules.specs.Promises.{before, after};
 ghost use Rattle.score_regions.specs.Region.{score_step, region_scored, past_targets, ScoresFit};
 
 use rules::{Span, Spans};
-use score_mean::box_mean;
+use score_mean::{Term, box_mean};
 
 // The cells of row r from the column left on.
-fn score_row(
+fn score_row<T: Term>(
     row: &mut [f64],
-    squared: bool,
     counts: &[u32],
     tiles: usize,
     cols: usize,
@@ -23,40 +22,34 @@ fn score_row(
     left: usize,
 )
     requires { (tile_number_fits tiles ≡ true) × (r * cols + cols ≤ length counts.now) × (left + length row.old ≤ cols) }
-    ensures { after row ≡ over_row nan (score_step squared counts.now tiles cols) r left (before row) }
+    ensures { after row ≡ over_row nan (score_step T.of counts.now tiles cols) r left (before row) }
 {
-    let mut j = 0;
-    while j < row.len() {
-        row[j] = box_mean(squared, counts, tiles, cols, r, left + j);
-        j += 1;
+    for (j, score) in row.iter_mut().enumerate() {
+        *score = box_mean::<T>(counts, tiles, cols, r, left + j);
     }
 }
 
-pub fn score_region(
+pub fn score_region<T: Term>(
     scores: &mut [f64],
-    squared: bool,
     counts: &[u32],
     tiles: usize,
     cols: usize,
     spans: Spans,
 )
     requires { ScoresFit scores.old counts.now cols tiles spans.rows spans.cols }
-    ensures { after scores ≡ region_scored squared counts.now tiles cols spans.rows spans.cols (before scores) }
+    ensures { after scores ≡ region_scored T.of counts.now tiles cols spans.rows spans.cols (before scores) }
 {
-    let mut r = spans.rows.0;
-    while r < spans.rows.1 {
+    for r in spans.rows.0..spans.rows.1 {
         let from = r * cols + spans.cols.0;
         let to = r * cols + spans.cols.1;
-        score_row(
+        score_row::<T>(
             &mut scores[from..to],
-            squared,
             counts,
             tiles,
             cols,
             r,
             spans.cols.0,
         );
-        r += 1;
     }
 }
 
@@ -66,6 +59,6 @@ pub fn past_targets(side: usize, span: Span) -> Span
     requires { (span.0 ≤ max_board_side) × (span.1 ≤ 2 * max_board_side) }
     ensures { result ≡ past_targets side span }
 {
-    let end = places::least(span.1 + 1, side);
-    Span(places::least(span.0 + 2, end), end)
+    let end = (span.1 + 1).min(side);
+    Span((span.0 + 2).min(end), end)
 }

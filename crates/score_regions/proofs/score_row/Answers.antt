@@ -5,11 +5,11 @@ use borrow.Author.Rules.{rules}
 use Rattle.score_regions.proofs.score_row.Goals as goal
 
 pub loop-j-init : goal.loop-j-init
-loop-j-init c = sweep-none
+loop-j-init g c = sweep-none
 
 pub loop-j-preserved : goal.loop-j-preserved
-loop-j-preserved c = sweep-turn c.loop-j.invariant (search rules) c.box_mean.ensures
+loop-j-preserved g c = sweep-turn c.loop-j.invariant (search rules) c.box_mean.ensures
 
 pub returns : goal.returns
 unfolding over_row
-returns c = sweep-all c.loop-j.invariant (search rules)
+returns g c = sweep-all c.loop-j.invariant (search rules)
