@@ -2,36 +2,36 @@
 // file `stdout`. Each store starts as 77 everywhere and is printed whole, so what was not written shows.
 #![tactic(auto)]
 
-use rules::Refusal;
+use rules::{ColourList, Refusal};
 use std::io;
-
-fn wide(byte: u8) -> u64 {
-    byte as u64
-}
 
 // A heading, numbers with single blanks, and a line feed.
 fn print_line(rt: &impl Print, heading: &[u8], bytes: &[u8]) -> io::Result<()> {
     rt.write_all(heading)?;
-    let mut k = 0;
-    while k < bytes.len() {
+    for byte in bytes {
         rt.write_all(b" ")?;
-        rt.print(wide(bytes[k]))?;
-        k += 1;
+        rt.print(u64::from(*byte))?;
     }
     rt.write_all(b"\n")
 }
 
+fn print_refused(rt: &impl Print, refusal: Refusal) -> io::Result<()> {
+    rt.write_all(b"refused ")?;
+    rt.print(refusal as u64)
+}
+
 // The number of tiles or the refusal, then the store.
-fn print_extraction(rt: &impl Print, answer: Result<usize, Refusal>, store: &[u8]) -> io::Result<()> {
+fn print_extraction(
+    rt: &impl Print,
+    answer: Result<usize, Refusal>,
+    store: &[u8],
+) -> io::Result<()> {
     match answer {
         Ok(n) => {
             rt.write_all(b"tiles ")?;
             rt.print(n as u64)?;
         }
-        Err(n) => {
-            rt.write_all(b"refused ")?;
-            rt.print(n as u64)?;
-        }
+        Err(refusal) => print_refused(rt, refusal)?,
     }
     print_line(rt, b":", store)
 }
@@ -58,17 +58,16 @@ fn print_sample(
     print_extraction(rt, answer, &store)
 }
 
+// The colours of a tile, listed.
+fn members_of(tile: [u8; 9], count: u32) -> Result<ColourList, Refusal> {
+    bitset::to_vec(tiles::convert_tile_to_membership_booleans(tile, count)?)
+}
+
 fn print_members(rt: &impl Print, tile: [u8; 9], count: u32) -> io::Result<()> {
-    let answer = tiles::convert_tile_to_membership_booleans(tile, count);
-    match answer {
-        Ok(set) => {
-            let list = bitset::to_vec(set);
-            let colours = list.colours;
-            print_line(rt, b"members:", &colours)
-        }
-        Err(n) => {
-            rt.write_all(b"refused ")?;
-            rt.print(n as u64)?;
+    match members_of(tile, count) {
+        Ok(list) => print_line(rt, b"members:", &list.colours),
+        Err(refusal) => {
+            print_refused(rt, refusal)?;
             rt.write_all(b"\n")
         }
     }
@@ -89,10 +88,8 @@ fn print_refusals(rt: &impl Print) -> io::Result<()> {
 
 fn main(rt: HostRuntime) -> io::Result<()> {
     let nine = [1u8, 2, 3, 4, 5, 6, 7, 8, 9];
-    let turned = tile_forms::rotate_90(nine);
-    print_line(&rt, b"rotated:", &turned)?;
-    let mirrored = tile_forms::reflect(nine);
-    print_line(&rt, b"reflected:", &mirrored)?;
+    print_line(&rt, b"rotated:", &tile_forms::rotate_90(nine))?;
+    print_line(&rt, b"reflected:", &tile_forms::reflect(nine))?;
     print_nine(&rt, true, true)?;
     print_nine(&rt, true, false)?;
     print_nine(&rt, false, true)?;

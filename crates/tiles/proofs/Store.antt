@@ -1,7 +1,7 @@
 -- Laws of tile lists and of the store that they are written to, as the code meets them.
 --     held, no_room, put      what adding one tile answers and leaves
 --     Kept, kept_none, kept_on   the loop over a run of tiles: how many are kept of those so far, and what the store holds
---     full_end, done_end      the two ways out of it
+--     full-end, done_end      the two ways out of it
 -- Assumes nothing.
 use Prim.Native.Nat.{ℕ, zero, suc, ◌+◌, ◌-◌, ◌*◌, ◌/◌, ◌≤◌, ◌<◌}
 use mathlib.Core.Path.{◌≡◌, refl, sym, ◌∙◌, ap}
@@ -239,9 +239,9 @@ module _ (f : ℕ → List ℕ) (d : List ℕ) (v n : ℕ) (x heads nexts : List
         }
 
     -- where they no longer fit, what the store holds is final
-    pub full_end : {r : Refusal} (m : ℕ) → x' ≡ Err r → v < m → Gathers (distinct m f) d (Err r) y
+    pub full-end : {r : Refusal} (m : ℕ) → x' ≡ Err r → v < m → Gathers (distinct m f) d (Err r) y
     unfolding store_with
-    full_end m was h =
+    full-end m was h =
         let g = room-answered (distinct (v + 1) f) x kept-answer was in
         let w = distinct-grows f (v + 1) m (omega arith) in
         let e : take (tiles_in d * 9) (distinct m f) ≡ take (tiles_in d * 9) (distinct (v + 1) f) =

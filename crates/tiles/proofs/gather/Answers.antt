@@ -4,7 +4,7 @@ use native.Mathlib.Omega.{arith}
 use Rattle.rules.specs.Tiles.{extracted}
 use Rattle.rules.proofs.Answered.{handed_to}
 use Rattle.tile_forms.proofs.Variants.{variant-nine}
-use Rattle.tiles.proofs.Store.{kept_none, kept-chained, kept_on, full_end, done_end}
+use Rattle.tiles.proofs.Store.{kept_none, kept-chained, kept_on, full-end, done_end}
 use Rattle.tiles.proofs.gather.Goals as goal
 
 pub loop-v-init : goal.loop-v-init
@@ -22,7 +22,7 @@ add_tile-requires c =
 pub returns-in_err-n : goal.returns-in_err-n
 unfolding extracted
 returns-in_err-n c =
-    let g = full_end _ _ _ _ _ _ _ c.loop-v.invariant _ _ _ _ c.variant_of-tile.ensures (variant-nine _ _ _ _ _ _ _ c.variant_of-tile.ensures) c.add_tile.ensures
+    let g = full-end _ _ _ _ _ _ _ c.loop-v.invariant _ _ _ _ c.variant_of-tile.ensures (variant-nine _ _ _ _ _ _ _ c.variant_of-tile.ensures) c.add_tile.ensures
     _ c.in_err-n.was (omega (arith, c.loop-v-test.true, c.variants_of-total.ensures.0)) in
     record { answered = handed_to c.from_residual.ensures g.answered; leaves = g.leaves }
 
