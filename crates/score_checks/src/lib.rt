@@ -1,5 +1,4 @@
 // The checks of the score calls: of the planes and the number of tiles, of the old scores where some of them stay, and of the spans' ends.
-// Each function answers the refusal's number, 0 where there is none.
 #![tactic(auto)]
 
 ghost use Rattle.std.specs.Prelude.{◌≡◌, true};

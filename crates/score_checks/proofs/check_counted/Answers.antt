@@ -9,14 +9,14 @@ use Rattle.score_checks.proofs.check_counted.Goals as goal
 pub overflow_mul-rows : goal.overflow_mul-rows
 overflow_mul-rows c = record { fits = omega (arith, few-cells _ _ c.requires) }
 
-pub returns-then-not-floats_have_length : goal.returns-then-not-floats_have_length
-returns-then-not-floats_have_length c = search (chain, answers) depth 20 fits 5000
+pub returns-then-not-has_length : goal.returns-then-not-has_length
+returns-then-not-has_length c = search (chain, answers) depth 20 fits 5000
 
 pub overflow_mul-rows-2 : goal.overflow_mul-rows-2
 overflow_mul-rows-2 c = record { fits = omega (arith, few-cells _ _ c.requires) }
 
-pub returns-then-not-words_have_length : goal.returns-then-not-words_have_length
-returns-then-not-words_have_length c = search (chain, answers) depth 20 fits 5000
+pub returns-then-not-has_length-2 : goal.returns-then-not-has_length-2
+returns-then-not-has_length-2 c = search (chain, answers) depth 20 fits 5000
 
 pub returns-then-not-tile_number_fits : goal.returns-then-not-tile_number_fits
 returns-then-not-tile_number_fits c = search (chain, answers) depth 20 fits 5000
