@@ -15,10 +15,10 @@ module _ (rows cols : ℕ) (tiles : List ℕ) (count : ℕ) (row col down across
   fitting-coincide pieces found = gives-decides _ _
 
   pub lay-coincide : (colour : ℕ) (old : Board) → Decides (DeskLays rows cols tiles count row col down across colour old)
-  lay-coincide colour old = numbered-decides _ _ (gives-decides _ _)
+  lay-coincide colour old = numbered-decides _ (gives-decides _ _)
 
   pub lift-coincide : (old : Board) → Decides (DeskLifts rows cols tiles count row col down across old)
-  lift-coincide old = numbered-decides _ _ (gives-decides _ _)
+  lift-coincide old = numbered-decides _ (gives-decides _ _)
 
   pub run-coincide : (bounds : Option BoundingBox) (budget : ℕ) (old : Board) (ran : List ℕ) → Decides (DeskRuns rows cols tiles count row col down across bounds budget old ran)
   run-coincide bounds budget old ran = gives-decides _ _
@@ -29,7 +29,7 @@ widen-coincide rows cols p tiles count down across old lent offset = gives-decid
 
 module _ (rows cols : ℕ) (counts : List ℕ) (tiles : ℕ) (scores : List Float) where
   pub score-coincide : Decides (DeskScores rows cols counts tiles scores)
-  score-coincide = numbered-decides _ _ (gives-decides _ _)
+  score-coincide = numbered-decides _ (gives-decides _ _)
 
   pub score-near-coincide : (rowstart rowend colstart colend : ℕ) → Decides (DeskScoresNear rows cols counts tiles rowstart rowend colstart colend scores)
-  score-near-coincide rowstart rowend colstart colend = numbered-decides _ _ (gives-decides _ _)
+  score-near-coincide rowstart rowend colstart colend = numbered-decides _ (gives-decides _ _)

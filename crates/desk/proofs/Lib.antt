@@ -1,3 +1,2 @@
-pub mod Widened
-pub mod RunTold
+pub mod Told
 pub mod Coincide

@@ -5,24 +5,22 @@
 
 ghost use Rattle.rules.specs.Promises.{before, after, board, board_before, board_after};
 ghost use Rattle.boundary_slots.specs.Slots.{world, bounds_from, pads_by};
-ghost use Rattle.desk.specs.Desk.{TellsColours, DeskLists, DeskLays, DeskLifts, DeskRuns, ran_with, DeskWidens, larger, DeskScores, DeskScoresNear};
+ghost use Rattle.boundary.specs.Boundary.{Tells};
+ghost use Rattle.desk.specs.Desk.{colours_stored, beside, DeskLists, DeskLays, DeskLifts, DeskRuns, DeskWidens, DeskScores, DeskScoresNear};
 
-use boundary::{laid, lifted, widened, written};
-use boundary_slots::{bounds_from, offset_at, put_long, world_at};
-use rules::{Pads, Refusal, Span, TileBitset};
+use boundary::{widened, written};
+use boundary_slots::{bounds_from, offset_at, put, world_at};
+use rules::{Pads, Refusal, Span, Spans, TileBitset};
 
 // The set goes over in one entry of 64 bits, so that sets of up to 64 colours leave the C side as it is; further entries are for what a
 // listing may tell one day beside its colours.
 fn found_colours(answer: Result<TileBitset, Refusal>, found: &mut [u64]) -> u32
-    ensures { TellsColours answer (before found) result (after found) }
+    ensures { Tells colours_stored answer (before found) result (after found) }
 {
-    match answer {
-        Ok(set) => {
-            put_long(found, 0, set.bits as u64);
-            0
-        }
-        Err(n) => n as u32,
+    if let Ok(set) = answer {
+        put(found, 0, u64::from(set.bits));
     }
+    written(answer)
 }
 
 pub fn desk_fitting_colours(
@@ -41,10 +39,10 @@ pub fn desk_fitting_colours(
 {
     let listed_at = world_at(row, col);
     let offset = offset_at(down, across);
-    let answer = fit::compute_viable_tiles_at_position(
-        pieces, rows, cols, tiles, count, listed_at, offset,
-    );
-    found_colours(answer, found)
+    found_colours(
+        fit::compute_viable_tiles_at_position(pieces, rows, cols, tiles, count, listed_at, offset),
+        found,
+    )
 }
 
 pub fn desk_lay(
@@ -66,10 +64,9 @@ pub fn desk_lay(
 {
     let laid_at = world_at(row, col);
     let offset = offset_at(down, across);
-    let answer = board::lay(
+    written(board::lay(
         pieces, weights, counts, rows, cols, tiles, count, laid_at, offset, colour,
-    );
-    laid(answer)
+    ))
 }
 
 pub fn desk_lift(
@@ -90,10 +87,9 @@ pub fn desk_lift(
 {
     let lifted_at = world_at(row, col);
     let offset = offset_at(down, across);
-    let answer = board::lift(
+    written(board::lift(
         pieces, weights, counts, rows, cols, tiles, count, lifted_at, offset,
-    );
-    lifted(answer)
+    ))
 }
 
 // How the run ended goes into the first entry of `ran`, 0 done, 1 spent, 2 full; then how many entries were taken, and how many laid. The
@@ -119,17 +115,19 @@ pub fn desk_forced_run(
     ran: &mut [u64],
 ) -> u32
     ensures { DeskRuns rows cols tiles.now count row col down across (bounds_from within (world minrow mincol) (world maxrow maxcol)) budget
-        (board_before pieces weights counts) (before ran) result (ran_with (board_after pieces weights counts) (after ran)) }
+        (board_before pieces weights counts) (before ran) result (beside (board_after pieces weights counts) (after ran)) }
 {
     let place = world_at(row, col);
     let offset = offset_at(down, across);
     let least = world_at(minrow, mincol);
     let most = world_at(maxrow, maxcol);
     let bounds = bounds_from(within, least, most);
-    let answer = board_forced::forced_run(
-        pieces, weights, counts, rows, cols, tiles, count, place, offset, bounds, budget,
-    );
-    boundary_longs::ran(answer, ran)
+    boundary_longs::ran(
+        board_forced::forced_run(
+            pieces, weights, counts, rows, cols, tiles, count, place, offset, bounds, budget,
+        ),
+        ran,
+    )
 }
 
 // The board goes into three larger planes, and the new offset into the first two entries of `offset`: rows, then columns.
@@ -153,7 +151,7 @@ pub fn desk_widen(
     offset: &mut [i32],
 ) -> u32
     ensures { DeskWidens rows cols (pads_by left right top bottom) tiles.now count down across (board pieces.now weights.now counts.now)
-        (board_before widepieces wideweights widecounts) (before offset) result (larger (board_after widepieces wideweights widecounts) (after offset)) }
+        (board_before widepieces wideweights widecounts) (before offset) result (beside (board_after widepieces wideweights widecounts) (after offset)) }
 {
     let pads = Pads {
         left,
@@ -162,21 +160,23 @@ pub fn desk_widen(
         bottom,
     };
     let from = offset_at(down, across);
-    let answer = board_widen::widen(
-        widepieces,
-        wideweights,
-        widecounts,
-        pieces,
-        weights,
-        counts,
-        rows,
-        cols,
-        pads,
-        tiles,
-        count,
-        from,
-    );
-    widened(answer, offset)
+    widened(
+        board_widen::widen(
+            widepieces,
+            wideweights,
+            widecounts,
+            pieces,
+            weights,
+            counts,
+            rows,
+            cols,
+            pads,
+            tiles,
+            count,
+            from,
+        ),
+        offset,
+    )
 }
 
 // The number of tiles is a number here, as in all scores: the list itself is not looked at.
@@ -189,8 +189,7 @@ pub fn desk_plain_score(
 ) -> u32
     ensures { DeskScores rows cols counts.now tiles (before scores) result (after scores) }
 {
-    let answer = score_plain::plain_score(scores, counts, rows, cols, tiles);
-    written(answer)
+    written(score_plain::plain_score(scores, counts, rows, cols, tiles))
 }
 
 pub fn desk_plain_score_near(
@@ -206,14 +205,15 @@ pub fn desk_plain_score_near(
 ) -> u32
     ensures { DeskScoresNear rows cols counts.now tiles rowstart rowend colstart colend (before scores) result (after scores) }
 {
-    let answer = score_plain::plain_score_near(
+    written(score_plain::plain_score_near(
         scores,
         counts,
         rows,
         cols,
         tiles,
-        Span(rowstart, rowend),
-        Span(colstart, colend),
-    );
-    written(answer)
+        Spans {
+            rows: Span(rowstart, rowend),
+            cols: Span(colstart, colend),
+        },
+    ))
 }

@@ -3,7 +3,7 @@
 
 ghost use Rattle.rules.specs.Promises.{before, after, board, board_before, board_after};
 ghost use Rattle.boundary_slots.specs.Slots.{world, bounds_from, pads_by};
-ghost use Rattle.desk.specs.Desk.{DeskLists, DeskLays, DeskLifts, DeskRuns, ran_with, DeskWidens, larger, DeskScores, DeskScoresNear};
+ghost use Rattle.desk.specs.Desk.{beside, DeskLists, DeskLays, DeskLifts, DeskRuns, DeskWidens, DeskScores, DeskScoresNear};
 
 #[unsafe(no_mangle)]
 pub extern "C" fn desk_fitting_colours(
@@ -92,7 +92,7 @@ pub extern "C" fn desk_forced_run(
     ran: &mut [u64],
 ) -> u32
     ensures { DeskRuns rows cols tiles.now count row col down across (bounds_from within (world minrow mincol) (world maxrow maxcol)) budget
-        (board_before pieces weights counts) (before ran) result (ran_with (board_after pieces weights counts) (after ran)) }
+        (board_before pieces weights counts) (before ran) result (beside (board_after pieces weights counts) (after ran)) }
 {
     desk::desk_forced_run(
         pieces, weights, counts, rows, cols, tiles, count, row, col, down, across, within, minrow,
@@ -121,7 +121,7 @@ pub extern "C" fn desk_widen(
     offset: &mut [i32],
 ) -> u32
     ensures { DeskWidens rows cols (pads_by left right top bottom) tiles.now count down across (board pieces.now weights.now counts.now)
-        (board_before widepieces wideweights widecounts) (before offset) result (larger (board_after widepieces wideweights widecounts) (after offset)) }
+        (board_before widepieces wideweights widecounts) (before offset) result (beside (board_after widepieces wideweights widecounts) (after offset)) }
 {
     desk::desk_widen(
         widepieces,

@@ -9,8 +9,7 @@ ghost use Rattle.rules.specs.Scores.{fraction_at};
 ghost use Rattle.rules.specs.Sets.{empty_set, full_set, inserted, contained, intersected, emptiness, members_counted};
 ghost use Rattle.rules.specs.Promises.{before, after, board_before, board_after, Freshens, Raises, Lowers};
 ghost use Rattle.boundary_slots.specs.Slots.{world, offset_by, set_from};
-ghost use Rattle.boundary.specs.Boundary.{Numbered, written_number};
-ghost use Rattle.boundary.specs.Boundary.{TellsDeadEnd, TellsSpans, TellsSet, TellsVerdict, TellsCount, TellsFraction};
+ghost use Rattle.boundary.specs.Boundary.{value_stored, truth_stored, set_stored, dead_end_stored, spans_stored, Numbered, Tells};
 ghost use Rattle.harness.specs.Harness.{PortLists, PortRecounts};
 
 #[unsafe(no_mangle)]
@@ -43,7 +42,7 @@ pub extern "C" fn port_scan(
     count: u32,
     out: &mut [u64],
 ) -> u32
-    ensures { TellsDeadEnd (dead_end flat pieces.now weights.now rows cols tiles.now count) (before out) result (after out) }
+    ensures { Tells dead_end_stored (dead_end flat pieces.now weights.now rows cols tiles.now count) (before out) result (after out) }
 {
     harness::port_scan(pieces, weights, rows, cols, tiles, count, out)
 }
@@ -57,7 +56,7 @@ pub extern "C" fn port_fresh(
     cols: usize,
     tiles: usize,
 ) -> u32
-    ensures { Numbered written_number (Freshens rows cols tiles (board_before pieces weights counts)) result (board_after pieces weights counts) }
+    ensures { Numbered (Freshens rows cols tiles (board_before pieces weights counts)) result (board_after pieces weights counts) }
 {
     harness::port_fresh(pieces, weights, counts, rows, cols, tiles)
 }
@@ -71,35 +70,35 @@ pub extern "C" fn port_get_region_spans(
     radius: usize,
     out: &mut [u64],
 ) -> u32
-    ensures { TellsSpans (region_spans (offset_by down across) (world row col) radius) (before out) result (after out) }
+    ensures { Tells spans_stored (region_spans (offset_by down across) (world row col) radius) (before out) result (after out) }
 {
     harness::port_get_region_spans(down, across, row, col, radius, out)
 }
 
 #[unsafe(no_mangle)]
 pub extern "C" fn port_set_new(size: u32, out: &mut [u32]) -> u32
-    ensures { TellsSet (empty_set size) (before out) result (after out) }
+    ensures { Tells set_stored (empty_set size) (before out) result (after out) }
 {
     harness::port_set_new(size, out)
 }
 
 #[unsafe(no_mangle)]
 pub extern "C" fn port_set_all(size: u32, out: &mut [u32]) -> u32
-    ensures { TellsSet (full_set size) (before out) result (after out) }
+    ensures { Tells set_stored (full_set size) (before out) result (after out) }
 {
     harness::port_set_all(size, out)
 }
 
 #[unsafe(no_mangle)]
 pub extern "C" fn port_set_insert(bits: u32, size: u32, colour: u32, out: &mut [u32]) -> u32
-    ensures { TellsSet (inserted (set_from bits size) colour) (before out) result (after out) }
+    ensures { Tells set_stored (inserted (set_from bits size) colour) (before out) result (after out) }
 {
     harness::port_set_insert(bits, size, colour, out)
 }
 
 #[unsafe(no_mangle)]
 pub extern "C" fn port_set_contains(bits: u32, size: u32, colour: u32, out: &mut [u32]) -> u32
-    ensures { TellsVerdict (contained (set_from bits size) colour) (before out) result (after out) }
+    ensures { Tells truth_stored (contained (set_from bits size) colour) (before out) result (after out) }
 {
     harness::port_set_contains(bits, size, colour, out)
 }
@@ -112,21 +111,21 @@ pub extern "C" fn port_set_intersection(
     most: u32,
     out: &mut [u32],
 ) -> u32
-    ensures { TellsSet (intersected (set_from bits size) (set_from others most)) (before out) result (after out) }
+    ensures { Tells set_stored (intersected (set_from bits size) (set_from others most)) (before out) result (after out) }
 {
     harness::port_set_intersection(bits, size, others, most, out)
 }
 
 #[unsafe(no_mangle)]
 pub extern "C" fn port_set_is_empty(bits: u32, size: u32, out: &mut [u32]) -> u32
-    ensures { TellsVerdict (emptiness (set_from bits size)) (before out) result (after out) }
+    ensures { Tells truth_stored (emptiness (set_from bits size)) (before out) result (after out) }
 {
     harness::port_set_is_empty(bits, size, out)
 }
 
 #[unsafe(no_mangle)]
 pub extern "C" fn port_set_count(bits: u32, size: u32, out: &mut [u64]) -> u32
-    ensures { TellsCount (members_counted (set_from bits size)) (before out) result (after out) }
+    ensures { Tells value_stored (members_counted (set_from bits size)) (before out) result (after out) }
 {
     harness::port_set_count(bits, size, out)
 }
@@ -142,7 +141,7 @@ pub extern "C" fn port_region_count(
     col: usize,
     out: &mut [u64],
 ) -> u32
-    ensures { TellsCount (region_count flat pieces.now rows cols tiles.now count (cell_at row col)) (before out) result (after out) }
+    ensures { Tells value_stored (region_count flat pieces.now rows cols tiles.now count (cell_at row col)) (before out) result (after out) }
 {
     harness::port_region_count(pieces, rows, cols, tiles, count, row, col, out)
 }
@@ -157,7 +156,7 @@ pub extern "C" fn port_fraction(
     col: usize,
     out: &mut [f64],
 ) -> u32
-    ensures { TellsFraction (fraction_at counts.now rows cols tiles (cell_at row col)) (before out) result (after out) }
+    ensures { Tells value_stored (fraction_at counts.now rows cols tiles (cell_at row col)) (before out) result (after out) }
 {
     harness::port_fraction(counts, rows, cols, tiles, row, col, out)
 }
@@ -172,7 +171,7 @@ pub extern "C" fn port_raise_weights(
     down: i32,
     across: i32,
 ) -> u32
-    ensures { Numbered written_number (Raises flat rows cols (world row col) (offset_by down across) (before weights)) result (after weights) }
+    ensures { Numbered (Raises flat rows cols (world row col) (offset_by down across) (before weights)) result (after weights) }
 {
     harness::port_raise_weights(weights, rows, cols, row, col, down, across)
 }
@@ -187,7 +186,7 @@ pub extern "C" fn port_lower_weights(
     down: i32,
     across: i32,
 ) -> u32
-    ensures { Numbered written_number (Lowers flat rows cols (world row col) (offset_by down across) (before weights)) result (after weights) }
+    ensures { Numbered (Lowers flat rows cols (world row col) (offset_by down across) (before weights)) result (after weights) }
 {
     harness::port_lower_weights(weights, rows, cols, row, col, down, across)
 }

@@ -2,4 +2,4 @@
 use Rattle.desk.proofs.desk_plain_score_near.Goals as goal
 
 pub returns : goal.returns
-returns c = record { answer = _; numbers = c.written.ensures; promised = c.before.before.before.plain_score_near-answer.ensures }
+returns c = record { answer = _; numbers = c.written.ensures; promised = c.plain_score_near.ensures }

@@ -1,7 +1,7 @@
 -- `harness::port_fraction` meets its contract: the answer by its definition, passed on. Assumes nothing.
 use Rattle.boundary.proofs.Back.{passed_on}
-use Rattle.boundary.specs.Boundary.{fraction_number, fraction_left}
+use Rattle.boundary.specs.Boundary.{told_left, value_stored}
 use Rattle.harness.proofs.port_fraction.Goals as goal
 
 pub returns : goal.returns
-returns c = passed_on fraction_number fraction_left c.get_fraction-answer.ensures c.divided.ensures
+returns c = passed_on (told_left value_stored) c.get_fraction.ensures c.divided.ensures

@@ -2,4 +2,4 @@
 use Rattle.harness.proofs.port_fresh.Goals as goal
 
 pub returns : goal.returns
-returns c = record { answer = _; numbers = c.written.ensures; promised = c.fresh-answer.ensures }
+returns c = record { answer = _; numbers = c.written.ensures; promised = c.fresh.ensures }

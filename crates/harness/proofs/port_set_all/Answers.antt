@@ -1,7 +1,7 @@
 -- `harness::port_set_all` meets its contract: the answer by its definition, passed on. Assumes nothing.
 use Rattle.boundary.proofs.Back.{passed_on}
-use Rattle.boundary.specs.Boundary.{set_number, set_left}
+use Rattle.boundary.specs.Boundary.{told_left, set_stored}
 use Rattle.harness.proofs.port_set_all.Goals as goal
 
 pub returns : goal.returns
-returns c = passed_on set_number set_left c.all-answer.ensures c.set_given.ensures
+returns c = passed_on (told_left set_stored) c.all.ensures c.set_given.ensures

@@ -1,7 +1,7 @@
 -- `harness::port_set_count` meets its contract: the answer by its definition, passed on. Assumes nothing.
 use Rattle.boundary.proofs.Back.{passed_on}
-use Rattle.boundary.specs.Boundary.{count_number, count_left}
+use Rattle.boundary.specs.Boundary.{told_left, value_stored}
 use Rattle.harness.proofs.port_set_count.Goals as goal
 
 pub returns : goal.returns
-returns c = passed_on count_number count_left c.count-answer.ensures c.counted.ensures
+returns c = passed_on (told_left value_stored) c.count.ensures c.counted.ensures
