@@ -1,5 +1,6 @@
 // Lay and lift on a board, three lent planes, pieces, weights and counts. A refused call changes none of them. Places are wall
-// coordinates; the offset leads to the cell.
+// coordinates; the offset leads to the cell. What the two share stands beneath them, but that each opens the answers of the number of
+// tiles and of the spans itself, as document 01 has it.
 #![tactic(auto)]
 
 ghost use Rattle.rules.specs.Promises.{board_before, board_after, panel, Lays, Lifts};
@@ -68,8 +69,6 @@ pub fn lift(
     };
     let cell = cell_of(place, offset);
     check_lifting(pieces, cols, cell)?;
-    lift_at(
-        pieces, weights, counts, rows, cols, tiles, cell, spans,
-    );
+    lift_at(pieces, weights, counts, rows, cols, tiles, cell, spans);
     Ok(())
 }

@@ -1,68 +1,96 @@
 -- `board::lift` meets its contract: refused by its lengths, its tiles, its contents, its place or at last, or done. Assumes nothing.
-use mathlib.Core.Path.{◌≡◌, refl, sym, ◌∙◌, ap}
+use mathlib.Core.Path.{◌≡◌, refl, ◌∙◌, ap}
 use Rattle.base.specs.Refusal.{refusal}
-use Rattle.base.proofs.Chain.{chain, is-refusing, stop, go}
+use Rattle.base.proofs.Chain.{go}
+use Rattle.rules.specs.Answers.{checked}
 use Rattle.rules.specs.Grid.{entry_of, flat}
 use Rattle.rules.specs.Board.{lifted, board_checks, lifting_checks, after_lift}
 use Rattle.rules.specs.Promises.{board, panel}
 use Rattle.rules.specs.declared.Cell.{Cell}
-use Rattle.rules.proofs.Answered.{answers}
-use Rattle.check_sizes.proofs.Lengths.{lengths}
+use Rattle.rules.proofs.Answered.{handed_to, caught, stopped, went-on, passed, refused, done}
 use Rattle.check_sizes.proofs.Tiled.{few-tiles}
 use Rattle.board_near.proofs.Placing.{place-stops, place-passes}
 use Rattle.board_near.proofs.Leaning.{in-plane}
-use Rattle.board_planes.proofs.Planes.{contents-by}
-use Rattle.board.proofs.Leaning.{movable}
-use Rattle.board.proofs.lift.Goals.{Else-bad-ne0}
+use Rattle.board_moves.specs.Movable.{Movable}
+use Rattle.board.proofs.Leaning.{no-tiles, bad-contents, planes-passed, movable}
+use Rattle.board.proofs.lift.Goals.{In_ok-check_cells, After-cell_of-cell}
 use Rattle.board.proofs.lift.Goals as goal
 
-pub returns-then-no-ne0 : goal.returns-then-no-ne0
+pub returns-in_err-check_lengths : goal.returns-in_err-check_lengths
 unfolding after_lift
-returns-then-no-ne0 c = search (chain, answers) depth 20 fits 5000
+returns-in_err-check_lengths c =
+    rw (handed_to c.from_residual.ensures refl)
+    (refused _ _ _ _ (stopped _ _ (stopped _ _ (caught _ _ c.check_lengths.ensures c.in_err-check_lengths.was))))
 
 pub returns-in_default : goal.returns-in_default
 unfolding after_lift
-returns-in_default c = search (chain, answers, lengths) depth 20 fits 5000
+returns-in_default c =
+    refused _ _ _ _
+    (stopped _ _
+    (no-tiles _ _ _ _ _ _ _ c.args.offset (passed _ _ c.check_lengths.ensures c.in_ok-check_lengths.was) c.tile_number.ensures c.in_default.is))
 
-pub contents_refused-bad-requires : goal.contents_refused-bad-requires
-contents_refused-bad-requires c = few-tiles _ _ c.tile_number.ensures _ c.in-Tiles.is
+pub check_cells-requires : goal.check_cells-requires
+check_cells-requires c = few-tiles _ _ c.tile_number.ensures _ c.in-Ok.is
 
-pub returns-then-bad-ne0 : goal.returns-then-bad-ne0
+pub returns-in_err-check_cells : goal.returns-in_err-check_cells
 unfolding after_lift
-returns-then-bad-ne0 c = search (chain, answers, lengths, contents-by) depth 20 fits 5000
+returns-in_err-check_cells c =
+    rw (handed_to c.from_residual-in_err-check_cells.ensures refl)
+    (refused _ _ _ _
+    (stopped _ _
+    (bad-contents _ _ _ _ _ _ _ c.args.offset (passed _ _ c.check_lengths.ensures c.in_ok-check_lengths.was) c.tile_number.ensures c.in-Ok.is
+    (caught _ _ c.check_cells.ensures c.in_err-check_cells.was))))
 
 -- the checks of the planes have passed
-made : (c : Else-bad-ne0)
+made : (c : In_ok-check_cells)
     → let a = c.args in
     0 ≡ refusal (board_checks (panel a.rows a.cols a.tiles.now a.offset) a.count (board a.pieces.now a.weights.now a.counts.now))
-made c = search (chain, answers, lengths, contents-by) depth 20 fits 5000
+made c =
+    planes-passed _ _ _ _ _ _ _ c.args.offset (passed _ _ c.check_lengths.ensures c.in_ok-check_lengths.was) c.tile_number.ensures c.in-Ok.is
+    (passed _ _ c.check_cells.ensures c.in_ok-check_cells.was)
 
 pub returns-in_default-near_spans : goal.returns-in_default-near_spans
 unfolding after_lift
-returns-in_default-near_spans c = lift-refused _ _ _ _ refl (go _ _ _ (made (goal.at.returns-in_default-near_spans c).Else-bad-ne0) (stop _ _ _ refl (place-stops _ _ _ _ _ _ c.in_default-near_spans.is c.near_spans.ensures)))
+returns-in_default-near_spans c =
+    refused _ _ _ _
+    (went-on _ _ (made (goal.at.returns-in_default-near_spans c).In_ok-check_cells)
+    (stopped _ _ (place-stops _ _ _ _ c.in_default-near_spans.is c.near_spans.ensures)))
 
-pub lifting_refused-wrong-requires : goal.lifting_refused-wrong-requires
-lifting_refused-wrong-requires c = in-plane _ _ _ _ (movable _ _ _ _ _ _ _ _ (made (goal.at.lifting_refused-wrong-requires c).Else-bad-ne0) _ _ _ _ c.in-Spans.is c.near_spans.ensures _ c.cell_of-cell.ensures).pieces
+-- so the board may be changed round the place
+moves : (c : After-cell_of-cell)
+    → let a = c.args in
+    0 ≡ refusal (board_checks (panel a.rows a.cols a.tiles.now a.offset) a.count (board a.pieces.now a.weights.now a.counts.now))
+    → Movable (board a.pieces.now a.weights.now a.counts.now) a.rows a.cols a.tiles.now c.cell_of-cell.result c.in-Ok-near_spans.spans
+moves c e = movable _ _ _ _ _ _ _ _ e _ c.in-Ok-near_spans.is c.near_spans.ensures _ c.cell_of-cell.ensures
 
-pub returns-then-wrong-ne0 : goal.returns-then-wrong-ne0
+pub check_lifting-requires : goal.check_lifting-requires
+check_lifting-requires c = in-plane _ _ _ _ (moves c (made (goal.at.check_lifting-requires c).In_ok-check_cells)).pieces
+
+pub returns-in_err-check_lifting : goal.returns-in_err-check_lifting
 unfolding after_lift
-returns-then-wrong-ne0 c =
+returns-in_err-check_lifting c =
     let a = c.args in
-    lift-refused _ _ _ _ (is-refusing _ c.if-wrong-ne0.true)
-    (go _ _ _ (made (goal.at.returns-then-wrong-ne0 c).Else-bad-ne0)
-    (go _ _ _ (place-passes _ _ _ _ _ _ _ c.in-Spans.is c.near_spans.ensures)
-    (c.lifting_refused-wrong.ensures ∙ ap (λ (x : Cell). refusal (lifting_checks a.pieces.now (entry_of a.cols x))) c.cell_of-cell.ensures)))
+    rw (handed_to c.from_residual-in_err-check_lifting.ensures refl)
+    (refused _ _ _ _
+    (went-on _ _ (made (goal.at.returns-in_err-check_lifting c).In_ok-check_cells)
+    (went-on _ _ (place-passes _ _ _ _ c.in-Ok-near_spans.is c.near_spans.ensures)
+    (caught _ _
+    (c.check_lifting.ensures ∙ ap (λ (x : Cell). checked (lifting_checks a.pieces.now (entry_of a.cols x))) c.cell_of-cell.ensures)
+    c.in_err-check_lifting.was))))
 
 pub lift_at-requires : goal.lift_at-requires
-lift_at-requires c = movable _ _ _ _ _ _ _ _ (made (goal.at.lift_at-requires c).Else-bad-ne0) _ _ _ _ c.in-Spans.is c.near_spans.ensures _ c.cell_of-cell.ensures
+lift_at-requires c = moves (goal.at.lift_at-requires c).After-cell_of-cell (made (goal.at.lift_at-requires c).In_ok-check_cells)
 
 pub returns : goal.returns
 unfolding after_lift
 returns c =
     let a = c.args in
-    lift-done _ _ _
-    (go _ _ _ (made (goal.at.returns c).Else-bad-ne0)
-    (go _ _ _ (place-passes _ _ _ _ _ _ _ c.in-Spans.is c.near_spans.ensures)
-    (sym c.if-wrong-ne0.false ∙ (c.lifting_refused-wrong.ensures ∙ ap (λ (x : Cell). refusal (lifting_checks a.pieces.now (entry_of a.cols x))) c.cell_of-cell.ensures))))
+    done _ _ _ _
+    (go _ _ _ (made (goal.at.returns c).In_ok-check_cells)
+    (go _ _ _ (place-passes _ _ _ _ c.in-Ok-near_spans.is c.near_spans.ensures)
+    (passed _ _
+    (c.check_lifting.ensures ∙ ap (λ (x : Cell). checked (lifting_checks a.pieces.now (entry_of a.cols x))) c.cell_of-cell.ensures)
+    c.in_ok-check_lifting.was)))
+    refl
     (c.lift_at.ensures
     ∙ ap (λ (x : Cell). lifted (flat a.rows a.cols) a.tiles.now (board a.pieces.now a.weights.now a.counts.now) (entry_of a.cols x)) c.cell_of-cell.ensures)
