@@ -1,8 +1,7 @@
--- What widen leans on once its checks have passed, and what its ways out promise.
+-- What widen leans on once its checks have passed.
 --     accepted      what the checks give
 --     weighable, countable    the larger pieces, once they are moved
 --     widened_is    the three planes, joined
---     widen-refused, widen-done     a refusal leaves the lent planes; else the answer tells the new offset
 -- Assumes nothing.
 use Prim.Native.Nat.{ℕ, ◌*◌}
 use mathlib.Core.Path.{◌≡◌, refl, sym, ◌∙◌, ap}
@@ -10,11 +9,9 @@ use mathlib.Core.Bool.{true}
 use mathlib.Core.List.{List}
 use lib.ListN.{length}
 use Rattle.base.specs.Tables.{tab}
-use Rattle.base.specs.Refusal.{Checks, refusal, Does}
-use Rattle.base.proofs.Chain.{Passes, all_pass, refusing}
-use Rattle.base.proofs.Answered.{was-refused, was-done}
+use Rattle.base.specs.Refusal.{refusal}
+use Rattle.base.proofs.Chain.{Passes, all_pass}
 use Rattle.rules.specs.Tests.{offset_fits}
-use Rattle.rules.specs.Answers.{widen_answer}
 use Rattle.rules.specs.Grid.{flat}
 use Rattle.rules.specs.Places.{new_rows, new_cols}
 use Rattle.rules.specs.Fit.{pieces_checks}
@@ -79,13 +76,3 @@ pub widened_is : (b : Board) (rows cols : ℕ) (p : Pads) (tiles : List ℕ) (o 
     → q ≡ counts_of (flat (new_rows rows p) (new_cols cols p)) tiles v → board v w q ≡ widened (panel rows cols tiles o) p b
 unfolding widened widened_weights
 widened_is b rows cols p tiles o e w-is q-is = rw (w-is, q-is, e)
-
-module _ {B : Type 0} (cs : Checks) (new old : B) (o : Offset) where
-  pub widen-refused : (n : ℕ) → refusing n ≡ true → n ≡ refusal cs
-      → Does cs (λ m. widen_answer m o) new old (WidenAnswer·.Refused n) old
-  widen-refused n t e = was-refused (λ (m : ℕ). widen_answer m o) WidenAnswer·.Refused (λ m. refl) cs new old n t e
-
-  pub widen-done : {x : Offset} {after : B} → 0 ≡ refusal cs → x ≡ o → after ≡ new
-      → Does cs (λ m. widen_answer m o) new old (WidenAnswer·.Widened x) after
-  widen-done {x} {after} e q z =
-      was-done (λ (m : ℕ). widen_answer m o) WidenAnswer·.Refused (λ m. refl) cs new old _ after (ap WidenAnswer·.Widened q) e z

@@ -3,7 +3,7 @@
 #![tactic(auto)]
 
 ghost use Rattle.std.specs.Prelude.{◌≡◌, ◌+◌, ◌*◌, ◌<◌, ◌≤◌, length};
-ghost use Rattle.base.specs.Regions.{between, inside};
+ghost use Rattle.base.specs.Regions.{inside};
 ghost use Rattle.base.specs.Tables.{tab};
 ghost use Rattle.rules.specs.Bounds.{max_board_side};
 ghost use Rattle.rules.specs.Grid.{flat};
@@ -19,9 +19,9 @@ use board_planes::fill;
 use board_recount::recount_near;
 use board_weigh::weight_at;
 use board_widen_checks::check_widen;
-use copy_words::lay_rows_u32;
+use copy_rows::lay_rows;
 use place_extension::offset_after;
-use rules::{Cell, Offset, Pads, Refusal, Span};
+use rules::{Cell, Offset, Pads, Refusal, Span, Spans};
 
 // Pieces keep their wall coordinates; new cells are bare.
 fn move_pieces(widepieces: &mut [u32], pieces: &[u32], rows: usize, cols: usize, pads: Pads)
@@ -29,13 +29,7 @@ fn move_pieces(widepieces: &mut [u32], pieces: &[u32], rows: usize, cols: usize,
     ensures { after widepieces ≡ widened_pieces rows cols pads pieces.now }
 {
     fill(widepieces, rules::BARE_PIECE);
-    lay_rows_u32(widepieces, pieces, rows, cols, pads);
-}
-
-fn is_between(from: usize, to: usize, x: usize) -> bool
-    ensures { result ≡ between from to x }
-{
-    from <= x && x < to
+    lay_rows(widepieces, pieces, rows, cols, pads);
 }
 
 // The cell (row, col) of the larger grid is an old one.
@@ -43,7 +37,7 @@ fn is_old(rows: usize, cols: usize, pads: Pads, row: usize, col: usize) -> bool
     requires { (new_rows rows pads ≤ max_board_side) × (new_cols cols pads ≤ max_board_side) }
     ensures { result ≡ inside pads.left (pads.left + rows) pads.top (pads.top + cols) row col }
 {
-    is_between(pads.left, pads.left + rows, row) && is_between(pads.top, pads.top + cols, col)
+    (pads.left..pads.left + rows).contains(&row) && (pads.top..pads.top + cols).contains(&col)
 }
 
 // The weight of entry k of the larger plane: an old cell keeps its weight, a new one follows demand 3's formula from the pieces.
@@ -63,11 +57,11 @@ fn weight_after(
     let wide = pads.top + cols + pads.bottom;
     let row = k / wide;
     let col = k % wide;
-    if !is_old(rows, cols, pads, row, col) {
-        return weight_at(widepieces, tall, wide, Cell(row, col));
+    if is_old(rows, cols, pads, row, col) {
+        weights[(row - pads.left) * cols + (col - pads.top)]
+    } else {
+        weight_at(widepieces, tall, wide, Cell(row, col))
     }
-    let old = (row - pads.left) * cols + (col - pads.top);
-    weights[old]
 }
 
 // No old cell is weighed, so that no work is done that the answer does not need.
@@ -84,10 +78,8 @@ fn move_weights(
     ensures { after wideweights
         ≡ tab (new_rows rows pads * new_cols cols pads) (weight_after widepieces.now weights.now rows cols pads) }
 {
-    let mut k = 0;
-    while k < wideweights.len() {
-        wideweights[k] = weight_after(widepieces, weights, rows, cols, pads, k);
-        k += 1;
+    for (k, weight) in wideweights.iter_mut().enumerate() {
+        *weight = weight_after(widepieces, weights, rows, cols, pads, k);
     }
 }
 
@@ -110,15 +102,11 @@ fn count_all(
     let wide = pads.top + cols + pads.bottom;
     let n = tiles.len() / rules::TILE_CELLS;
     fill(widecounts, n as u32);
-    recount_near(
-        widecounts,
-        widepieces,
-        tall,
-        wide,
-        tiles,
-        Span(0, tall),
-        Span(0, wide),
-    );
+    let all = Spans {
+        rows: Span(0, tall),
+        cols: Span(0, wide),
+    };
+    recount_near(widecounts, widepieces, tall, wide, tiles, all);
 }
 
 // The answer tells the new offset.

@@ -3,4 +3,4 @@ use Rattle.board_widen.proofs.Pieces.{pieces-moved}
 use Rattle.board_widen.proofs.move_pieces.Goals as goal
 
 pub returns : goal.returns
-returns c = pieces-moved _ _ _ _ _ c.lay_rows_u32.ensures c.fill.ensures c.requires.room-is
+returns c = pieces-moved _ _ _ _ _ (c.lay_rows.ensures 0) c.fill.ensures c.requires.room-is
