@@ -2,7 +2,7 @@
 -- Assumes nothing.
 use Prim.Native.Nat.{ℕ, ◌*◌}
 use mathlib.Core.Path.{◌≡◌}
-use mathlib.Core.Bool.{Bool, true}
+use mathlib.Core.Bool.{true}
 use mathlib.Core.List.{List}
 use native.Mathlib.Omega.{arith}
 use lib.ListN.{length}
@@ -20,8 +20,8 @@ ordered-falls : (s : Span) (x : ℕ) → in_span (ordered_span s) x ≡ in_span 
 ordered-falls s x = same-between _ _ _ _ x (λ a b. (omega arith, b)) (λ a b. (omega arith, b))
 
 pub spans-scored : (scores : List Float) (counts : List ℕ) (rows cols tiles : ℕ) → board_sides rows cols ≡ true → length scores ≡ rows * cols
-    → (squared : Bool) (rs cs : Span)
-    → region_scored squared counts tiles cols (ordered_span rs) (ordered_span cs) scores ≡ scored rows cols (lift_falls rs cs) (term_of squared counts tiles) scores
-spans-scored scores counts rows cols tiles sides long squared rs cs =
-    region-scored scores counts rows cols tiles sides long squared (ordered_span rs) (ordered_span cs) (lift_falls rs cs)
+    → (f : Float → Float) (rs cs : Span)
+    → region_scored f counts tiles cols (ordered_span rs) (ordered_span cs) scores ≡ scored rows cols (lift_falls rs cs) (term_of f counts tiles) scores
+spans-scored scores counts rows cols tiles sides long f rs cs =
+    region-scored scores counts rows cols tiles sides long f (ordered_span rs) (ordered_span cs) (lift_falls rs cs)
     (λ r c _ _. rw (ordered-falls rs r, ordered-falls cs c))
