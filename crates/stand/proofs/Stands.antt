@@ -17,6 +17,7 @@ use mathlib.Core.List.{List, [], ◌∷◌, map}
 use native.Mathlib.Omega.{arith}
 use lib.Dec.{leb, ltb, eqb}
 use lib.ListN.{get_or}
+use Rattle.std.specs.Prelude.{Ok}
 use borrow.Author.Tests.{leb-true, leb-false, ne_eqb}
 use Rattle.base.specs.Counting.{pick, sum, tally}
 use Rattle.base.specs.Tables.{fold}
@@ -243,7 +244,7 @@ calls-stand j sound calls =
     e = stands j sound (map call calls) (calls-may j.kind calls)
 
 -- "From a fresh board": whatever the lent planes held, what an accepted call of fresh leaves is the board from which the runs start
-pub from-fresh : (j : Panel) (old left : Board) → Freshens j.rows j.cols (tiles_in j.tiles) old Done left → left ≡ fresh j
+pub from-fresh : (j : Panel) (old left : Board) → Freshens j.rows j.cols (tiles_in j.tiles) old (Ok tt) left → left ≡ fresh j
 from-fresh j old left f = (was-written _ _ _ f).1
 
 -- the theorem for the panels of the calls, whose grid is flat
