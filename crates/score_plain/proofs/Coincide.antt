@@ -4,6 +4,7 @@ use Prim.Native.Nat.{ℕ}
 use mathlib.Core.Path.{◌≡◌, sym, ◌∙◌}
 use mathlib.Core.List.{List}
 use lib.Ieee.{Float}
+use Rattle.std.specs.Prelude.{Ok}
 use Rattle.base.proofs.Chain.{gives-coincide}
 use Rattle.rules.specs.Promises.{ScoresPlain, ScoresWhole}
 use Rattle.rules.specs.declared.Span.{Span}
@@ -20,5 +21,5 @@ module _ (scores : List Float) (counts : List ℕ) (rows cols tiles : ℕ) {a c 
 
 -- and whatever the plane held: what an accepted scoring of the whole board leaves depends on the counts alone
 pub plain-score-whatever : (scores others : List Float) (counts : List ℕ) (rows cols tiles : ℕ) {l m : List Float}
-    → ScoresWhole rows cols counts tiles scores Done l → ScoresWhole rows cols counts tiles others Done m → l ≡ m
+    → ScoresWhole rows cols counts tiles scores (Ok tt) l → ScoresWhole rows cols counts tiles others (Ok tt) m → l ≡ m
 plain-score-whatever scores others counts rows cols tiles p q = (was-written _ _ _ p).1 ∙ sym (was-written _ _ _ q).1

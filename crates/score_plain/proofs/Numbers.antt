@@ -5,6 +5,7 @@ use mathlib.Core.Path.{◌≡◌, sym, subst}
 use mathlib.Core.Bool.{true}
 use mathlib.Core.List.{List}
 use lib.Ieee.{Float}
+use Rattle.std.specs.Prelude.{Ok}
 use Rattle.rules.specs.Floats.{no_nan, all_are}
 use Rattle.rules.specs.Scores.{fraction, lift_falls, plain_scores, whole_scores, lift_score_checks, whole_score_checks}
 use Rattle.rules.specs.Promises.{ScoresPlain, ScoresWhole}
@@ -14,7 +15,7 @@ use Rattle.score_mean.proofs.Numbers.{fraction-upward, scored-numbers, whole_num
 use Rattle.score_checks.proofs.Accept.{spans-pass, whole-passes}
 
 module _ (scores : List Float) (counts : List ℕ) (rows cols tiles : ℕ) {l : List Float} where
-  pub plain-score-near-numbers : (rs cs : Span) → ScoresPlain rows cols counts tiles rs cs scores Done l → all_are no_nan l ≡ true
+  pub plain-score-near-numbers : (rs cs : Span) → ScoresPlain rows cols counts tiles rs cs scores (Ok tt) l → all_are no_nan l ≡ true
   unfolding plain_scores
   plain-score-near-numbers rs cs done =
       let d = was-written (lift_score_checks scores counts rows cols tiles rs cs) (plain_scores rows cols counts tiles rs cs scores) scores done in
@@ -24,7 +25,7 @@ module _ (scores : List Float) (counts : List ℕ) (rows cols tiles : ℕ) {l : 
       scores s.sides s.scored.planes.scores-long s.scored.finite)
 
   -- the old scores may be anything
-  pub plain-score-numbers : ScoresWhole rows cols counts tiles scores Done l → all_are no_nan l ≡ true
+  pub plain-score-numbers : ScoresWhole rows cols counts tiles scores (Ok tt) l → all_are no_nan l ≡ true
   unfolding whole_scores
   plain-score-numbers done =
       let d = was-written (whole_score_checks scores counts rows cols tiles) (whole_scores rows cols counts tiles) scores done in

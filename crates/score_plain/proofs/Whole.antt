@@ -3,7 +3,7 @@
 -- Assumes nothing.
 use Prim.Native.Nat.{ℕ, ◌*◌, ◌/◌, ◌%◌, ◌<◌}
 use mathlib.Core.Path.{◌≡◌, refl, sym, ◌∙◌, ap}
-use mathlib.Core.Bool.{true, false}
+use mathlib.Core.Bool.{true}
 use mathlib.Core.List.{List}
 use native.Mathlib.Omega.{arith}
 use lib.ListN.{length, get_or}
@@ -19,7 +19,7 @@ use Rattle.rules.specs.declared.World.{World}
 use Rattle.rules.specs.declared.Offset.{Offset}
 use Rattle.rules.specs.declared.Span.{Span}
 use Rattle.check_sizes.proofs.Sides.{board-cols}
-use Rattle.score_mean.specs.Box.{term_of}
+use Rattle.score_mean.specs.Box.{unsquared}
 use Rattle.score_regions.specs.Region.{region_scored}
 use Rattle.score_regions.proofs.Scored.{region-scored}
 
@@ -41,10 +41,10 @@ module _ (scores : List Float) (counts : List ℕ) (rows cols tiles : ℕ) (side
       cell : ℕ → Float
       cell k = pick (lift_falls (up_to rows) (up_to cols) (k / cols) (k % cols)) (score_of rows cols (fraction counts tiles) k) (get_or scores k nan)
 
-  pub whole-scored : region_scored false counts tiles cols (up_to rows) (up_to cols) scores ≡ whole_scores rows cols counts tiles
-  unfolding plain_scores term_of
+  pub whole-scored : region_scored unsquared counts tiles cols (up_to rows) (up_to cols) scores ≡ whole_scores rows cols counts tiles
+  unfolding plain_scores
   whole-scored =
-      region-scored scores counts rows cols tiles sides long false (up_to rows) (up_to cols) (lift_falls (up_to rows) (up_to cols)) (λ r c r< c<. refl) ∙ near-whole
+      region-scored scores counts rows cols tiles sides long unsquared (up_to rows) (up_to cols) (lift_falls (up_to rows) (up_to cols)) (λ r c r< c<. refl) ∙ near-whole
 
   -- a cell that falls to the lay score gets its plain score by it
   pub lay-scale : (w : World) (o : Offset) (k : ℕ) → k < rows * cols → lay_falls rows cols w o (k / cols) (k % cols) ≡ true

@@ -9,7 +9,9 @@ ghost use Rattle.rules.specs.Promises.{before, after, ScoresPlain, ScoresWhole};
 
 use rules::{Refusal, Span, Spans};
 use score_checks::check_counted;
+use score_mean::Fractions;
 use score_regions::score_region;
+use score_spans::score_spans;
 
 // The plain score of each cell of the spans.
 pub fn plain_score_near(
@@ -22,7 +24,7 @@ pub fn plain_score_near(
 ) -> Result<(), Refusal>
     ensures { ScoresPlain rows cols counts.now tiles spans.rows spans.cols (before scores) result (after scores) }
 {
-    score_spans::score_spans(scores, false, counts, rows, cols, tiles, spans)
+    score_spans::<Fractions>(scores, counts, rows, cols, tiles, spans)
 }
 
 // The old scores are not asked about: none of them stays.
@@ -46,14 +48,10 @@ pub fn plain_score(
     ensures { ScoresWhole rows cols counts.now tiles (before scores) result (after scores) }
 {
     check_whole(scores, counts, rows, cols, tiles)?;
-    score_region(
-        scores,
-        false,
-        counts,
-        tiles,
-        cols,
-        Span(0, rows),
-        Span(0, cols),
-    );
+    let spans = Spans {
+        rows: Span(0, rows),
+        cols: Span(0, cols),
+    };
+    score_region::<Fractions>(scores, counts, tiles, cols, spans);
     Ok(())
 }
