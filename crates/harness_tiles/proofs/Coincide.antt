@@ -13,23 +13,23 @@ use Rattle.rules.specs.Sets.{members_listed}
 use Rattle.rules.specs.Tiles.{rotated, reflected, membership}
 use Rattle.rules.specs.Promises.{CopiesWords, CopiesFloats}
 use Rattle.boundary_slots.specs.Slots.{world, offset_by, pads_by, set_from}
-use Rattle.boundary.specs.Boundary.{Numbered, written_number, TellsSet, TellsVerdict}
+use Rattle.boundary.specs.Boundary.{Numbered, set_stored, truth_stored, Tells}
 use Rattle.harness_tiles.specs.Lent.{box_of, nine_of, put_from, TellsExtension, TellsMembers, PortExtracts, extended, bytes_with}
 use Rattle.boundary.proofs.Back.{lent, Decides, gives-decides, numbered-decides}
 use Rattle.rules.specs.Answers.{Answer}
 use Rattle.rules.specs.declared.ExtensionInfo.{ExtensionInfo}
 
 pub port-contains-coincide : (minrow mincol maxrow maxcol row col : ℤ) (out : List ℕ)
-    → Decides (TellsVerdict (box_contains (box_of minrow mincol maxrow maxcol) (world row col)) out)
+    → Decides (Tells truth_stored (box_contains (box_of minrow mincol maxrow maxcol) (world row col)) out)
 port-contains-coincide minrow mincol maxrow maxcol row col out = gives-decides _ _
 
 pub port-extend-u32-coincide : (plane : List ℕ) (rows cols left right top bottom : ℕ) (target : List ℕ)
-    → Decides (Numbered written_number (CopiesWords rows cols (pads_by left right top bottom) plane target))
-port-extend-u32-coincide plane rows cols left right top bottom target = numbered-decides _ _ (gives-decides _ _)
+    → Decides (Numbered (CopiesWords rows cols (pads_by left right top bottom) plane target))
+port-extend-u32-coincide plane rows cols left right top bottom target = numbered-decides _ (gives-decides _ _)
 
 pub port-extend-f64-coincide : (plane : List Float) (rows cols left right top bottom : ℕ) (target : List Float)
-    → Decides (Numbered written_number (CopiesFloats rows cols (pads_by left right top bottom) plane target))
-port-extend-f64-coincide plane rows cols left right top bottom target = numbered-decides _ _ (gives-decides _ _)
+    → Decides (Numbered (CopiesFloats rows cols (pads_by left right top bottom) plane target))
+port-extend-f64-coincide plane rows cols left right top bottom target = numbered-decides _ (gives-decides _ _)
 
 pub port-rotate-90-coincide : (tile out : List ℕ) {l m : List ℕ} → l ≡ put_from 0 (rotated (nine_of tile)) out → m ≡ put_from 0 (rotated (nine_of tile)) out → l ≡ m
 port-rotate-90-coincide tile out = coincide
@@ -37,7 +37,7 @@ port-rotate-90-coincide tile out = coincide
 pub port-reflect-coincide : (tile out : List ℕ) {l m : List ℕ} → l ≡ put_from 0 (reflected (nine_of tile)) out → m ≡ put_from 0 (reflected (nine_of tile)) out → l ≡ m
 port-reflect-coincide tile out = coincide
 
-pub port-membership-coincide : (tile : List ℕ) (count : ℕ) (out : List ℕ) → Decides (TellsSet (membership (nine_of tile) count) out)
+pub port-membership-coincide : (tile : List ℕ) (count : ℕ) (out : List ℕ) → Decides (Tells set_stored (membership (nine_of tile) count) out)
 port-membership-coincide tile count out = gives-decides _ _
 
 -- two results that tell this extension coincide: the slices before the call, and as each of the two calls leaves them

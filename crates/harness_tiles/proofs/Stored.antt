@@ -1,7 +1,7 @@
--- The laws of what is lent here: values stored one after another, equal parts of what several slices hold, a box from its numbers.
+-- The laws of what is lent here: values stored one after another, a box from its numbers, a call whose number of tiles is passed on.
 -- Assumes nothing.
 use Prim.Native.Nat.{ℕ, ◌+◌, ◌<◌, ◌≤◌}
-use mathlib.Core.Path.{◌≡◌, refl, sym, ◌∙◌, ap, ap₂, subst}
+use mathlib.Core.Path.{◌≡◌, sym, ◌∙◌, ap, ap₂}
 use mathlib.Core.List.{List}
 use native.Mathlib.Numerals.{add-one}
 use lib.ListN.{length, get_or, drop, drop_of_length-le}
@@ -11,12 +11,11 @@ use mir.Syntax.{w32}
 use mir.Val.{SFits, to_z, of_z}
 use mir.Facts.{to_z-of_z}
 use Rattle.base.specs.Refusal.{Gives}
-use Rattle.base.proofs.Chain.{kept-old, has_new}
-use Rattle.rules.specs.declared.ColourList.{ColourList}
 use Rattle.rules.specs.declared.World.{World}
 use Rattle.rules.specs.declared.BoundingBox.{BoundingBox}
 use Rattle.boundary_slots.specs.Slots.{put}
-use Rattle.harness_tiles.specs.Lent.{box_of, put_from, extended, Bytes, bytes_with, list_left}
+use Rattle.rules.specs.Answers.{Answer, number_of}
+use Rattle.harness_tiles.specs.Lent.{box_of, put_from, bytes_with}
 
 -- one value stored, and what is left to store
 pub put-turn : {A : Type 0} (d : A) (l out after whole : List A) (k : ℕ) → k < length l → after ≡ put out k (get_or l k d) → put_from k (drop k l) out ≡ whole → put_from (k + 1) (drop (k + 1) l) after ≡ whole
@@ -42,25 +41,10 @@ corners p q = ap₂ box_from p q
 pub box-is : {a b c d : ℤ} → SFits w32 a → SFits w32 b → SFits w32 c → SFits w32 d → box_of (to_z w32 (of_z w32 a)) (to_z w32 (of_z w32 b)) (to_z w32 (of_z w32 c)) (to_z w32 (of_z w32 d)) ≡ box_of a b c d
 box-is fa fb fc fd = rw (to_z-of_z fa, to_z-of_z fb, to_z-of_z fc, to_z-of_z fd)
 
--- each slice of an extension, and so all three
-pub each-slice : {p q : List ℕ} {o u : List ℤ} {n m : List ℕ} → p ≡ q → o ≡ u → n ≡ m → extended p o n ≡ extended q u m
-each-slice p o n = rw (p, o, n)
-
 -- a call that writes bytes and answers a number, which is passed on
-pub bytes-told : {A : Type 0} (f : A → ℕ) (g : A → List ℕ → List ℕ) {answer a : A} {left bytes l after : List ℕ} {r : ℕ} → Gives answer left a bytes → Gives (f a) (g a l) r after → Gives (f answer) (bytes_with left (g answer l)) r (bytes_with bytes after)
-bytes-told {A = A} f g {answer = answer} {a = a} {left = left} {bytes = bytes} {l = l} {after = after} {r = r} e h =
+pub bytes-told : (g : Answer ℕ → List ℕ → List ℕ) {answer a : Answer ℕ} {left bytes l after : List ℕ} {r : ℕ} → Gives answer left a bytes → Gives (number_of a) (g a l) r after → Gives (number_of answer) (bytes_with left (g answer l)) r (bytes_with bytes after)
+bytes-told g {l = l} e h =
     record {
-      answered = h.answered ∙ ap f e.answered;
-      leaves = ap₂ bytes_with e.leaves (h.leaves ∙ ap (λ (x : A). g x l) e.answered);
+      answered = h.answered ∙ ap number_of e.answered;
+      leaves = ap₂ bytes_with e.leaves (h.leaves ∙ ap (λ (x : Answer ℕ). g x l) e.answered);
     }
-
--- a refused answer, for which nothing was stored
-pub unstored : {A B : Type 0} (f : A → ℕ) (g : A → B → B) {a b : A} {l : B} {n : ℕ} → a ≡ b → f b ≡ n → g b l ≡ l → Gives (f a) (g a l) n l
-unstored f g {l = l} {n = n} e z p = subst (λ x. Gives (f x) (g x l) n l) (sym e) (record { answered = sym z; leaves = sym p })
-
--- a list of colours: refused, nothing is stored; else its entries and its length
-pub colours-refused : (l : ColourList) (out : Bytes) → (l.refused ≡ 0 → ⊥) → Gives l.refused (list_left l out) l.refused out
-colours-refused l out h = record { answered = refl; leaves = sym (kept-old l.refused _ out h) }
-
-pub colours-stored : (l : ColourList) (out : Bytes) {bytes number : List ℕ} → l.refused ≡ 0 → bytes ≡ put_from 0 l.colours out.bytes → number ≡ put out.number 0 l.len → Gives l.refused (list_left l out) 0 (bytes_with bytes number)
-colours-stored l out e p q = record { answered = sym e; leaves = ap₂ bytes_with p q ∙ sym (has_new l.refused _ out e) }

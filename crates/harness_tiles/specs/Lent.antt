@@ -3,15 +3,15 @@
 -- slices as they are lent, for what they hold before and after.
 use Rattle.std.specs.Prelude.{ℕ, ◌+◌, Bool, List, [], ◌∷◌, get_or, ℤ}
 use Rattle.base.specs.Tables.{tab}
-use Rattle.base.specs.Refusal.{unless_refused, Gives}
+use Rattle.base.specs.Refusal.{Gives}
 use Rattle.rules.specs.Promises.{Lent, before, after}
 use Rattle.rules.specs.Tiles.{extraction, store_after}
 use Rattle.rules.specs.declared.BoundingBox.{BoundingBox}
 use Rattle.rules.specs.declared.Pads.{Pads}
 use Rattle.rules.specs.declared.ColourList.{ColourList}
 use Rattle.boundary_slots.specs.Slots.{world, put, offset_stored, digit_of}
-use Rattle.boundary.specs.Boundary.{tiles_number, tiles_left}
-use Rattle.rules.specs.Answers.{Answer}
+use Rattle.boundary.specs.Boundary.{value_stored, told_left, Tells}
+use Rattle.rules.specs.Answers.{Answer, number_of}
 use Rattle.rules.specs.declared.ExtensionInfo.{ExtensionInfo}
 
 -- ---- what goes in
@@ -44,21 +44,13 @@ pub record Extended : Type 0 where
 abbrev pub extended : List ℕ → List ℤ → List ℕ → Extended
 extended pads offset needed = record { pads = pads; offset = offset; needed = needed }
 
--- 0 where the call is accepted
-abbrev pub extension_number : Answer ExtensionInfo → ℕ
-extension_number (ExtensionAnswer·.Extension e) = 0
-extension_number (ExtensionAnswer·.Refused n) = n
-
 -- the pads, the new offset, and 1 where the grid has to grow, else 0
-abbrev pub extension_left : Answer ExtensionInfo → Extended → Extended
-extension_left (ExtensionAnswer·.Extension e) out =
-    extended (pads_stored e.pads out.pads) (offset_stored e.offset out.offset) (put out.needed 0 (digit_of e.needed))
-extension_left (ExtensionAnswer·.Refused n) out = out
+abbrev pub extension_stored : ExtensionInfo → Extended → Extended
+extension_stored e out = extended (pads_stored e.pads out.pads) (offset_stored e.offset out.offset) (put out.needed 0 (digit_of e.needed))
 
 abbrev pub TellsExtension : Answer ExtensionInfo → Lent (List ℕ) → Lent (List ℤ) → Lent (List ℕ) → ℕ → Type 0
 TellsExtension answer pads offset needed r =
-    Gives (extension_number answer) (extension_left answer (extended (before pads) (before offset) (before needed)))
-    r (extended (after pads) (after offset) (after needed))
+    Tells extension_stored answer (extended (before pads) (before offset) (before needed)) r (extended (after pads) (after offset) (after needed))
 
 -- the slices lent for bytes and for their number
 pub record Bytes : Type 0 where
@@ -68,17 +60,17 @@ pub record Bytes : Type 0 where
 abbrev pub bytes_with : List ℕ → List ℕ → Bytes
 bytes_with bytes number = record { bytes = bytes; number = number }
 
--- the entries of a list, those past its colours too, and its length; its refusal is its number
-abbrev pub list_left : ColourList → Bytes → Bytes
-list_left l out =
-    unless_refused l.refused (bytes_with (put_from 0 l.colours out.bytes) (put out.number 0 l.len)) out
+-- the entries of a list, those past its colours too, and its length
+abbrev pub list_stored : ColourList → Bytes → Bytes
+list_stored l out = bytes_with (put_from 0 l.colours out.bytes) (put out.number 0 l.len)
 
-abbrev pub TellsMembers : ColourList → Lent (List ℕ) → Lent (List ℕ) → ℕ → Type 0
-TellsMembers l colours len r = Gives l.refused (list_left l (bytes_with (before colours) (before len))) r (bytes_with (after colours) (after len))
+abbrev pub TellsMembers : Answer ColourList → Lent (List ℕ) → Lent (List ℕ) → ℕ → Type 0
+TellsMembers answer colours len r = Tells list_stored answer (bytes_with (before colours) (before len)) r (bytes_with (after colours) (after len))
 
 -- an extraction: the store as it is left, and the number of tiles
 abbrev pub PortExtracts : List ℕ → ℕ → ℕ → ℕ → Bool → Bool → Lent (List ℕ) → Lent (List ℕ) → ℕ → Type 0
 PortExtracts sample rows cols count rotations reflections store out r =
     let answer = extraction sample rows cols count rotations reflections (before store) in
-    Gives (tiles_number answer) (bytes_with (store_after sample rows cols count rotations reflections (before store)) (tiles_left answer (before out)))
+    Gives (number_of answer)
+    (bytes_with (store_after sample rows cols count rotations reflections (before store)) (told_left value_stored answer (before out)))
     r (bytes_with (after store) (after out))

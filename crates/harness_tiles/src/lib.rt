@@ -8,11 +8,11 @@ ghost use Rattle.rules.specs.Sets.{members_listed};
 ghost use Rattle.rules.specs.Tiles.{rotated, reflected, membership};
 ghost use Rattle.rules.specs.Promises.{before, after, CopiesWords, CopiesFloats};
 ghost use Rattle.boundary_slots.specs.Slots.{world, offset_by, pads_by, set_from};
-ghost use Rattle.boundary.specs.Boundary.{Numbered, written_number, TellsSet, TellsVerdict};
+ghost use Rattle.boundary.specs.Boundary.{Numbered, set_stored, truth_stored, Tells};
 ghost use Rattle.harness_tiles.specs.Lent.{box_of, nine_of, put_from, TellsExtension, TellsMembers, PortExtracts};
 
 use boundary::{judged, set_given, written};
-use boundary_longs::extracted;
+use boundary_longs::counted;
 use boundary_slots::{offset_at, world_at};
 use rules::{Pads, TileBitset};
 
@@ -27,7 +27,7 @@ pub fn port_contains(
     col: i32,
     out: &mut [u32],
 ) -> u32
-    ensures { TellsVerdict (box_contains (box_of minrow mincol maxrow maxcol) (world row col)) (before out) result (after out) }
+    ensures { Tells truth_stored (box_contains (box_of minrow mincol maxrow maxcol) (world row col)) (before out) result (after out) }
 {
     let bounds = lent::box_at(minrow, mincol, maxrow, maxcol);
     let place = world_at(row, col);
@@ -91,7 +91,7 @@ pub fn port_extend_u32(
     bottom: usize,
     target: &mut [u32],
 ) -> u32
-    ensures { Numbered written_number (CopiesWords rows cols (pads_by left right top bottom) plane.now (before target)) result (after target) }
+    ensures { Numbered (CopiesWords rows cols (pads_by left right top bottom) plane.now (before target)) result (after target) }
 {
     let pads = Pads {
         left,
@@ -113,7 +113,7 @@ pub fn port_extend_f64(
     bottom: usize,
     target: &mut [f64],
 ) -> u32
-    ensures { Numbered written_number (CopiesFloats rows cols (pads_by left right top bottom) plane.now (before target)) result (after target) }
+    ensures { Numbered (CopiesFloats rows cols (pads_by left right top bottom) plane.now (before target)) result (after target) }
 {
     let pads = Pads {
         left,
@@ -128,8 +128,8 @@ pub fn port_extend_f64(
 pub fn port_set_to_vec(bits: u32, size: u32, colours: &mut [u8], len: &mut [u64]) -> u32
     ensures { TellsMembers (members_listed (set_from bits size)) colours len result }
 {
-    let list = bitset::to_vec(TileBitset { bits, size });
-    lent::colours_given(list, colours, len)
+    let answer = bitset::to_vec(TileBitset { bits, size });
+    lent::colours_given(answer, colours, len)
 }
 
 pub fn port_extract_tiles(
@@ -145,7 +145,7 @@ pub fn port_extract_tiles(
     ensures { PortExtracts sample.now rows cols count rotations reflections store out result }
 {
     let answer = tiles::extract_tiles(sample, rows, cols, count, rotations, reflections, store);
-    extracted(answer, out)
+    counted(answer, out)
 }
 
 pub fn port_rotate_90(tile: &[u8], out: &mut [u8])
@@ -163,7 +163,7 @@ pub fn port_reflect(tile: &[u8], out: &mut [u8])
 }
 
 pub fn port_membership(tile: &[u8], count: u32, out: &mut [u32]) -> u32
-    ensures { TellsSet (membership (nine_of tile.now) count) (before out) result (after out) }
+    ensures { Tells set_stored (membership (nine_of tile.now) count) (before out) result (after out) }
 {
     let answer = tiles::convert_tile_to_membership_booleans(lent::tile_of(tile), count);
     set_given(answer, out)

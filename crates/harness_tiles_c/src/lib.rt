@@ -7,7 +7,7 @@ ghost use Rattle.rules.specs.Sets.{members_listed};
 ghost use Rattle.rules.specs.Tiles.{rotated, reflected, membership};
 ghost use Rattle.rules.specs.Promises.{before, after, CopiesWords, CopiesFloats};
 ghost use Rattle.boundary_slots.specs.Slots.{world, offset_by, pads_by, set_from};
-ghost use Rattle.boundary.specs.Boundary.{Numbered, written_number, TellsSet, TellsVerdict};
+ghost use Rattle.boundary.specs.Boundary.{Numbered, set_stored, truth_stored, Tells};
 ghost use Rattle.harness_tiles.specs.Lent.{box_of, nine_of, put_from, TellsExtension, TellsMembers, PortExtracts};
 
 #[unsafe(no_mangle)]
@@ -20,7 +20,7 @@ pub extern "C" fn port_contains(
     col: i32,
     out: &mut [u32],
 ) -> u32
-    ensures { TellsVerdict (box_contains (box_of minrow mincol maxrow maxcol) (world row col)) (before out) result (after out) }
+    ensures { Tells truth_stored (box_contains (box_of minrow mincol maxrow maxcol) (world row col)) (before out) result (after out) }
 {
     harness_tiles::port_contains(minrow, mincol, maxrow, maxcol, row, col, out)
 }
@@ -82,7 +82,7 @@ pub extern "C" fn port_extend_u32(
     bottom: usize,
     target: &mut [u32],
 ) -> u32
-    ensures { Numbered written_number (CopiesWords rows cols (pads_by left right top bottom) plane.now (before target)) result (after target) }
+    ensures { Numbered (CopiesWords rows cols (pads_by left right top bottom) plane.now (before target)) result (after target) }
 {
     harness_tiles::port_extend_u32(plane, rows, cols, left, right, top, bottom, target)
 }
@@ -98,7 +98,7 @@ pub extern "C" fn port_extend_f64(
     bottom: usize,
     target: &mut [f64],
 ) -> u32
-    ensures { Numbered written_number (CopiesFloats rows cols (pads_by left right top bottom) plane.now (before target)) result (after target) }
+    ensures { Numbered (CopiesFloats rows cols (pads_by left right top bottom) plane.now (before target)) result (after target) }
 {
     harness_tiles::port_extend_f64(plane, rows, cols, left, right, top, bottom, target)
 }
@@ -151,7 +151,7 @@ pub extern "C" fn port_reflect(tile: &[u8], out: &mut [u8])
 
 #[unsafe(no_mangle)]
 pub extern "C" fn port_membership(tile: &[u8], count: u32, out: &mut [u32]) -> u32
-    ensures { TellsSet (membership (nine_of tile.now) count) (before out) result (after out) }
+    ensures { Tells set_stored (membership (nine_of tile.now) count) (before out) result (after out) }
 {
     harness_tiles::port_membership(tile, count, out)
 }

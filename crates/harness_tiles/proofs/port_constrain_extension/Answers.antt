@@ -4,7 +4,8 @@ use Rattle.boundary_slots.proofs.Storing.{world_is, offset-is}
 use Rattle.boundary.proofs.Back.{passed_on}
 use Rattle.rules.specs.declared.World.{World}
 use Rattle.rules.specs.declared.Offset.{Offset}
-use Rattle.harness_tiles.specs.Lent.{extension_number, extension_left}
+use Rattle.boundary.specs.Boundary.{told_left}
+use Rattle.harness_tiles.specs.Lent.{extension_stored}
 use Rattle.rules.specs.Places.{boxed_extension}
 use Rattle.rules.specs.declared.BoundingBox.{BoundingBox}
 use Rattle.boundary_slots.specs.Slots.{world, offset_by}
@@ -14,7 +15,7 @@ use Rattle.harness_tiles.proofs.port_constrain_extension.Goals as goal
 pub returns : goal.returns
 returns c =
     let a = c.args in
-    passed_on extension_number extension_left
+    passed_on (told_left extension_stored)
     (c.constrain_extension-answer.ensures
     ∙ ap₂ (λ (w : World) (o : Offset). boxed_extension a.rows a.cols o w a.radius c.box_at-bounds.result)
     (c.world_at-place.ensures ∙ world_is c.ranges.row c.ranges.col)

@@ -1,12 +1,8 @@
 -- `harness_tiles::lent::put_bytes` meets its contract: at each turn what is left to store gives the whole. Assumes nothing.
-use Prim.Native.Nat.{◌-◌, ◌≤◌}
 use mathlib.Core.Path.{◌≡◌}
-use lib.ListN.{length, drop}
+use lib.ListN.{drop}
 use Rattle.harness_tiles.specs.Lent.{put_from}
 use Rattle.harness_tiles.proofs.lent.put_bytes.Given as goal
 
 abbrev pub invariant-loop-k : goal.invariant-loop-k
-invariant-loop-k l = (length l.out ≡ length l.initial.out) × (l.k ≤ length l.bytes) × (put_from l.k (drop l.k l.bytes) l.out ≡ put_from 0 l.bytes l.initial.out)
-
-abbrev pub decreases-loop-k : goal.decreases-loop-k
-decreases-loop-k l = length l.bytes - l.k
+invariant-loop-k l = put_from l.k (drop l.k l.bytes) l.out ≡ put_from 0 l.bytes l.initial.out

@@ -3,4 +3,4 @@ use Rattle.boundary_slots.proofs.Storing.{then-set}
 use Rattle.harness_tiles.proofs.lent.put_pads.Goals as goal
 
 pub returns : goal.returns
-returns c = then-set _ _ _ _ c.put_long-4.ensures (then-set _ _ _ _ c.put_long-3.ensures (then-set _ _ _ _ c.put_long-2.ensures c.put_long.ensures))
+returns c = then-set _ _ _ _ c.put-4.ensures (then-set _ _ _ _ c.put-3.ensures (then-set _ _ _ _ c.put-2.ensures c.put.ensures))
