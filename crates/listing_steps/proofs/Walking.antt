@@ -1,7 +1,7 @@
 -- Laws of the walk along the steps: what a step somewhere in the list is, where the next one starts, and the loop that takes one after the
 -- other. Its invariant is that what is left to do, from the board and the page as they are, comes to the whole.
 -- Assumes nothing.
-use Prim.Native.Nat.{ℕ, zero, suc, ◌+◌, ◌<◌, ◌≤◌}
+use Prim.Native.Nat.{ℕ, suc, ◌+◌, ◌<◌, ◌≤◌}
 use mathlib.Core.Path.{◌≡◌, refl, sym, ◌∙◌, ap, subst}
 use mathlib.Core.Bool.{true, false}
 use mathlib.Core.List.{List, [], ◌∷◌, ◌++◌}
@@ -15,12 +15,12 @@ use lib.Seq.{get_or-drop}
 use borrow.Author.Tests.{eqb-true, eqb-false, ne_eqb}
 use Rattle.base.specs.Tables.{fold}
 use Rattle.base.proofs.Bools.{by-test, never}
-use Rattle.base.specs.Refusal.{refusal, Gives}
+use Rattle.base.specs.Refusal.{Gives}
 use Rattle.base.proofs.Signs.{counted}
 use Rattle.rules.specs.Board.{Panel, Board, lay_checks, after_lay, lift_checks, after_lift}
 use Rattle.rules.specs.Promises.{Lays, Lifts}
 use Rattle.rules.specs.declared.World.{World}
-use Rattle.rules.specs.Answers.{Answer, lay_answer, lift_answer}
+use Rattle.rules.specs.Answers.{Answer, answered, checked, number_of}
 use Rattle.listing_numbers.specs.Input.{max_number}
 use Rattle.listing_job.specs.Form.{Step, lay, lift, Steps, misformed, steps, and_then, steps_in, is_whole, list_of, step_end}
 use Rattle.listing_job.proofs.Forming.{Starts, lay_by, lift_by, lays, lifts, step-at, not-cut, other_at, end-lay, end-lift}
@@ -28,17 +28,14 @@ use Rattle.listing_lines.specs.Lines.{number_line}
 use Rattle.listing_lines.specs.Pages.{Prints}
 use Rattle.listing_lines.proofs.Written.{writes-none, writes_then, writes_as}
 use Rattle.listing_steps.specs.Steps.{place_at, answer_to, board_past, answers_text, board_in}
-use Rattle.boundary.specs.Boundary.{lay_number, lift_number}
+use Rattle.listing_steps.proofs.Numbers.{up-to-ten, told-number}
 use Rattle.listing_steps.specs.Walks.{Walks, step_at, steps_from, Stepped, Ran}
 
 -- ---- the number of an answer
-pub lay-number-of : (n : ℕ) → lay_number (lay_answer n) ≡ n
-lay-number-of zero = refl
-lay-number-of (suc n) = refl
-
-pub lift-number-of : (n : ℕ) → lift_number (lift_answer n) ≡ n
-lift-number-of zero = refl
-lift-number-of (suc n) = refl
+answer-known : (j : Panel) (count : ℕ) (b : Board) (s : Step) → answer_to j count b s ≤ 10
+unfolding answer_to
+answer-known j count b (lay row col colour) = up-to-ten (lay_checks j count b (place_at row col) colour) refl
+answer-known j count b (lift row col) = up-to-ten (lift_checks j count b (place_at row col)) refl
 
 -- ---- the step somewhere in the list
 first_of : (s : Step) (x : Steps) → is_whole (and_then s x) ≡ true → (list_of (and_then s x) ≡ s ∷ list_of x) × (is_whole x ≡ true)
@@ -136,29 +133,30 @@ pub running_none : (j : Panel) (count : ℕ) (ns : List ℕ) (b : Board) (p at :
 running_none j count ns b p at x w = record { walks = w; boards = refl; texts = λ r z g. g }
 
 -- ---- one step of the board's calls
-pub took-lay : {a : Answer Unit} {w : World} {c : Board} {n : ℕ} (j : Panel) (count : ℕ) (b : Board) (s : Step) (row col colour : ℕ) → s ≡ lay row col colour → w ≡ place_at row col
-    → Lays j count w colour b a c → n ≡ lay_number a → Gives (answer_to j count b s) (board_past j count b s) n c
+pub took-lay : {a : Answer Unit} {w : World} {c : Board} (j : Panel) (count : ℕ) (b : Board) (s : Step) (row col colour : ℕ) → s ≡ lay row col colour → w ≡ place_at row col
+    → Lays j count w colour b a c → Gives (answered (answer_to j count b s) tt) (board_past j count b s) a c
 unfolding answer_to board_past
-took-lay {w = w} j count b s row col colour e p g q =
+took-lay j count b s row col colour e p g =
     rw e
     (record {
-      answered = q ∙ ap lay_number g.answered ∙ lay-number-of (refusal (lay_checks j count b w colour)) ∙ ap (λ (v : World). refusal (lay_checks j count b v colour)) p;
+      answered = g.answered ∙ ap (λ (v : World). checked (lay_checks j count b v colour)) p;
       leaves = g.leaves ∙ ap (λ (v : World). after_lay j count b v colour) p;
     })
 
-pub took-lift : {a : Answer Unit} {w : World} {c : Board} {n : ℕ} (j : Panel) (count : ℕ) (b : Board) (s : Step) (row col : ℕ) → s ≡ lift row col → w ≡ place_at row col
-    → Lifts j count w b a c → n ≡ lift_number a → Gives (answer_to j count b s) (board_past j count b s) n c
+pub took-lift : {a : Answer Unit} {w : World} {c : Board} (j : Panel) (count : ℕ) (b : Board) (s : Step) (row col : ℕ) → s ≡ lift row col → w ≡ place_at row col
+    → Lifts j count w b a c → Gives (answered (answer_to j count b s) tt) (board_past j count b s) a c
 unfolding answer_to board_past
-took-lift {w = w} j count b s row col e p g q =
+took-lift j count b s row col e p g =
     rw e
     (record {
-      answered = q ∙ ap lift_number g.answered ∙ lift-number-of (refusal (lift_checks j count b w)) ∙ ap (λ (v : World). refusal (lift_checks j count b v)) p;
+      answered = g.answered ∙ ap (λ (v : World). checked (lift_checks j count b v)) p;
       leaves = g.leaves ∙ ap (λ (v : World). after_lift j count b v) p;
     })
 
-pub stepped : {n at r : ℕ} {x y : List ℕ} {c : Board} (j : Panel) (count : ℕ) (b : Board) (s : Step) → Gives (answer_to j count b s) (board_past j count b s) n c
-    → Prints (number_line n) at x r y → Stepped j count b s at x r c y
-stepped j count b s g w = record { leaves = g.leaves; writes = writes_as (ap number_line g.answered) w }
+pub stepped : {a : Answer Unit} {n at r : ℕ} {x y : List ℕ} {c : Board} (j : Panel) (count : ℕ) (b : Board) (s : Step)
+    → Gives (answered (answer_to j count b s) tt) (board_past j count b s) a c → n ≡ number_of a → Prints (number_line n) at x r y → Stepped j count b s at x r c y
+stepped j count b s g q w =
+    record { leaves = g.leaves; writes = writes_as (ap number_line (q ∙ ap number_of g.answered ∙ told-number (answer_to j count b s) tt (answer-known j count b s))) w }
 
 -- a number of the input as a coordinate
 pub coordinate : {n : ℕ} → n ≤ max_number → to_z w32 n ≡ pos n

@@ -3,6 +3,7 @@ use Rattle.std.specs.Prelude.{ℕ, List, [], ◌∷◌, ◌++◌, pos}
 use Rattle.base.specs.Tables.{fold}
 use Rattle.base.specs.Refusal.{refusal, Gives}
 use Rattle.rules.specs.Board.{Panel, Board, lay_checks, after_lay, lift_checks, after_lift}
+use Rattle.rules.specs.Answers.{Answer, answered}
 use Rattle.rules.specs.declared.World.{World}
 use Rattle.listing_job.specs.Form.{Step, lay, lift}
 use Rattle.listing_job.specs.declared.Setup.{Setup}
@@ -22,9 +23,9 @@ board_past j count b (lay row col colour) = after_lay j count b (place_at row co
 board_past j count b (lift row col) = after_lift j count b (place_at row col)
 
 -- the promise of a call that takes one step of a job with these tiles
-abbrev pub Takes : Setup → List ℕ → Step → Board → ℕ → Board → Type 0
+abbrev pub Takes : Setup → List ℕ → Step → Board → Answer Unit → Board → Type 0
 Takes setup tiles s old =
-    Gives (answer_to (panel_with setup tiles) setup.count old s) (board_past (panel_with setup tiles) setup.count old s)
+    Gives (answered (answer_to (panel_with setup tiles) setup.count old s) tt) (board_past (panel_with setup tiles) setup.count old s)
 
 -- one line per step
 unfoldable pub answers_text : Panel → ℕ → Board → List Step → List ℕ

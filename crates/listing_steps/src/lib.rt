@@ -7,8 +7,9 @@ ghost use Rattle.listing_numbers.specs.Input.{max_number};
 ghost use Rattle.listing_steps.specs.Steps.{place_at, Takes};
 ghost use Rattle.listing_steps.specs.Walks.{Walks, step_at, steps_from, StepsOn, RunsOn};
 
+use boundary::written;
 use listing_job::Setup;
-use rules::{Offset, World};
+use rules::{Offset, Refusal, World};
 
 fn place(row: u32, col: u32) -> World
     requires { (row ≤ max_number) × (col ≤ max_number) }
@@ -17,7 +18,7 @@ fn place(row: u32, col: u32) -> World
     World(row as i32, col as i32)
 }
 
-// The step whose numbers start at p; answers 0 or the refusal.
+// The step whose numbers start at p.
 fn take_step(
     pieces: &mut [u32],
     weights: &mut [u32],
@@ -26,40 +27,38 @@ fn take_step(
     setup: Setup,
     numbers: &[u32],
     p: usize,
-) -> u32
+) -> Result<(), Refusal>
     requires { (Walks numbers.now p) × (p < length numbers.now) }
     ensures { Takes setup tiles.now (step_at numbers.now p) (board_before pieces weights counts) result (board_after pieces weights counts) }
 {
-    let rows = setup.board.rows;
-    let cols = setup.board.cols;
     let there = place(numbers[p + 1], numbers[p + 2]);
     let offset = Offset(0, 0);
     if numbers[p] == 1 {
-        let colour = numbers[p + 3];
-        return boundary::laid(board::lay(
+        board::lay(
             pieces,
             weights,
             counts,
-            rows,
-            cols,
+            setup.board.rows,
+            setup.board.cols,
             tiles,
             setup.count,
             there,
             offset,
-            colour,
-        ));
+            numbers[p + 3],
+        )
+    } else {
+        board::lift(
+            pieces,
+            weights,
+            counts,
+            setup.board.rows,
+            setup.board.cols,
+            tiles,
+            setup.count,
+            there,
+            offset,
+        )
     }
-    boundary::lifted(board::lift(
-        pieces,
-        weights,
-        counts,
-        rows,
-        cols,
-        tiles,
-        setup.count,
-        there,
-        offset,
-    ))
 }
 
 fn step(
@@ -76,7 +75,7 @@ fn step(
     requires { (Walks numbers.now p) × (p < length numbers.now) }
     ensures { StepsOn setup tiles.now (step_at numbers.now p) pieces weights counts at out result }
 {
-    let no = take_step(pieces, weights, counts, tiles, setup, numbers, p);
+    let no = written(take_step(pieces, weights, counts, tiles, setup, numbers, p));
     listing_lines::put_number_line(out, at, no)
 }
 

@@ -18,7 +18,10 @@ use Rattle.base.proofs.Counted.{every-ext}
 use Rattle.base.proofs.Tabled.{length-tab, get_d-tab}
 use Rattle.base.proofs.Chain.{all_pass, none-fails}
 use Rattle.rules.specs.Tests.{has_length, tiles_in, tile_number_fits, whole_tiles, colour_count, entry_up_to, none_above}
-use Rattle.rules.specs.Answers.{Answer, tile_answer}
+use Rattle.std.specs.Prelude.{Ok, Err}
+use Rattle.rules.specs.Answers.{Answer, answered, number}
+use Rattle.rules.specs.declared.Refusal.{Refusal}
+use Rattle.listing_steps.proofs.Numbers.{up-to-ten, told-refusal, told-value}
 use Rattle.rules.specs.Tiles.{starts_along, forms, variants, variant, distinct, extracted, store_with, sample_checks, room_check, extraction, store_after}
 use Rattle.rules.specs.Promises.{Extracts}
 use Rattle.check_sizes.proofs.Sides.{count_most, none_above-entry}
@@ -140,14 +143,6 @@ module _ (ns : List ℕ) (cells : ℕ) (long : 5 + cells ≤ length ns) where
       clipped-at k h ∙ omega (arith, count_most count few))
 
 -- ---- what extraction answers, for a store of 14,112 bytes
-answer-refused : (m v n : ℕ) → tile_answer m v ≡ TileNumber·.Refused n → (m ≡ n) × (n ≡ 0 → ⊥)
-answer-refused zero v n e = absurd (let z : ◌≡◌ {A = ℕ} 0 1 = cc in omega arith)
-answer-refused (suc m) v n e = let q : suc m ≡ n = cc in (q, λ z. omega arith)
-
-answer-tiles : (m v n : ℕ) → tile_answer m v ≡ TileNumber·.Tiles n → (m ≡ 0) × (v ≡ n)
-answer-tiles zero v n e = (refl, cc)
-answer-tiles (suc m) v n e = absurd (let z : ◌≡◌ {A = ℕ} 0 1 = cc in omega arith)
-
 module _ (ns : List ℕ) (rows cols count : ℕ) (rotations reflections : Bool) (d : List ℕ)
     (tall : rows ≤ 16) (broad : cols ≤ 16) (long : 5 + rows * cols ≤ length ns) (room : length d ≡ 14112) where
   abbrev bytes : List ℕ
@@ -167,23 +162,24 @@ module _ (ns : List ℕ) (rows cols count : ℕ) (rotations reflections : Bool) 
       let w = tiles-counted bytes rows cols rotations reflections tall broad in
       none-fails (room_check made d) (le-leb (tiles_in made) (tiles_in d) (omega (arith, w.2, room)))
 
-  pub extraction-is : extraction bytes rows cols count rotations reflections d ≡ tile_answer (refusal (sample_checks cells rows cols count)) (tiles_in made)
+  pub extraction-is : extraction bytes rows cols count rotations reflections d ≡ answered (refusal (sample_checks cells rows cols count)) (tiles_in made)
   unfolding extraction
   extraction-is =
-      ap (λ (n : ℕ). tile_answer n (tiles_in made))
+      ap (λ (n : ℕ). answered n (tiles_in made))
       (nothing-more (sample_checks bytes rows cols count) (room_check made d) has_room ∙ same-refusal ns (rows * cols) long rows cols count)
 
   module _ (a : Answer ℕ) (x : List ℕ) (g : Extracts bytes rows cols count rotations reflections d a x) where
-    pub told-refused : (n : ℕ) → a ≡ TileNumber·.Refused n → (refusal (sample_checks cells rows cols count) ≡ n) × (n ≡ 0 → ⊥)
-    told-refused n e = answer-refused (refusal (sample_checks cells rows cols count)) (tiles_in made) n (sym extraction-is ∙ sym g.answered ∙ e)
+    pub told-refused : (r : Refusal) → a ≡ Err r → (refusal (sample_checks cells rows cols count) ≡ number r) × (refusal (sample_checks cells rows cols count) ≡ 0 → ⊥)
+    told-refused r e =
+        told-refusal (refusal (sample_checks cells rows cols count)) (tiles_in made) (up-to-ten (sample_checks cells rows cols count) refl) (sym extraction-is ∙ sym g.answered ∙ e)
 
-    module _ (n : ℕ) (e : a ≡ TileNumber·.Tiles n) where
+    module _ (n : ℕ) (e : a ≡ Ok n) where
       pub told-accepted : refusal (sample_checks cells rows cols count) ≡ 0
-      told-accepted = (answer-tiles (refusal (sample_checks cells rows cols count)) (tiles_in made) n (sym extraction-is ∙ sym g.answered ∙ e)).0
+      told-accepted = (told-value (refusal (sample_checks cells rows cols count)) (tiles_in made) (sym extraction-is ∙ sym g.answered ∙ e)).0
 
       told-number : n * 9 ≡ length made
       told-number =
-          let q = (answer-tiles (refusal (sample_checks cells rows cols count)) (tiles_in made) n (sym extraction-is ∙ sym g.answered ∙ e)).1 in
+          let q = (told-value (refusal (sample_checks cells rows cols count)) (tiles_in made) (sym extraction-is ∙ sym g.answered ∙ e)).1 in
           omega (arith, q, (tiles-counted bytes rows cols rotations reflections tall broad).0)
 
       pub told-few : n * 9 ≤ 14112

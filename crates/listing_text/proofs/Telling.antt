@@ -23,10 +23,11 @@ use Rattle.check_sizes.proofs.Sides.{whole-number}
 use Rattle.listing_numbers.specs.Decimals.{Text, bad, numbers, parsed_into, over, numbers_stored, Parses}
 use Rattle.listing_numbers.specs.Input.{input_text}
 use Rattle.listing_job.specs.Form.{Step, steps_in, is_whole, max_sample, max_board, sides_up_to, head_fits, sample_cells, tail_fits, is_formed, setup_of, sample_in, step_numbers, form_of}
-use Rattle.listing_numbers.specs.declared.Parsed.{Parsed}
-use Rattle.listing_numbers.specs.declared.Parsed.TheVariants as Parsed·
-use Rattle.listing_job.specs.declared.Form.{Form}
-use Rattle.listing_job.specs.declared.Form.TheVariants as Form·
+use Rattle.std.specs.Prelude.{Option, Some, None, Result, Ok, Err}
+use Rattle.listing_numbers.specs.declared.ParseError.{ParseError}
+use Rattle.listing_numbers.specs.declared.ParseError.TheVariants as ParseError·
+use Rattle.rules.specs.Answers.{number}
+use Rattle.rules.specs.declared.Refusal.{Refusal}
 use Rattle.listing_job.specs.declared.Setup.{Setup}
 use Rattle.listing_job.proofs.Forming.{formed-head, formed-tail, head-sides, sides-up, few-cells}
 use Rattle.listing_numbers.proofs.Meaning.{input-few, input-small}
@@ -139,18 +140,17 @@ module _ (ns : List ℕ) (s : Setup) (f : Formed ns s) where
     unfolding sample_in
     same-setup = ap (λ (n : ℕ). refusal (sample_checks (take n (drop 5 ns)) s.sample.rows s.sample.cols s.count)) cells_is
 
-    pub job-refused : (n : ℕ) → a ≡ TileNumber·.Refused n → refused_line n ≡ job_text ns s
+    pub job-refused : (r : Refusal) → a ≡ Err r → refused_line (number r) ≡ job_text ns s
     unfolding job_text
-    job-refused n e =
-        let w = told-refused ns s.sample.rows s.sample.cols s.count s.rotations s.reflections d tall broad long room a x given n e in
-        let q : setup_refusal ns s ≡ n = sym same-setup ∙ w.0 in
-        go n w.1 (setup_refusal ns s) q _
+    job-refused r e =
+        let w = told-refused ns s.sample.rows s.sample.cols s.count s.rotations s.reflections d tall broad long room a x given r e in
+        ap refused_line (sym w.0 ∙ same-setup) ∙ go (setup_refusal ns s) (λ z. w.1 (same-setup ∙ z)) _
       where
-        go : (n : ℕ) → (n ≡ 0 → ⊥) → (m : ℕ) → m ≡ n → (text : List ℕ) → refused_line n ≡ unless_number m text
-        go zero h m q text = absurd (h refl)
-        go (suc n) h m q text = rw q
+        go : (m : ℕ) → (m ≡ 0 → ⊥) → (text : List ℕ) → refused_line m ≡ unless_number m text
+        go zero h text = absurd (h refl)
+        go (suc m) h text = refl
 
-    module _ (n : ℕ) (e : a ≡ TileNumber·.Tiles n) where
+    module _ (n : ℕ) (e : a ≡ Ok n) where
       pub tiles-few : n * 9 ≤ 14112
       tiles-few = told-few ns s.sample.rows s.sample.cols s.count s.rotations s.reflections d tall broad long room a x given n e
 
@@ -179,55 +179,48 @@ module _ (ns : List ℕ) (s : Setup) (f : Formed ns s) where
           w
 
 -- ---- numbers
-form-cases : (t : Bool) (s r : Setup) → pick t (Form·.Whole s) Form·.Bad ≡ Form·.Whole r → (t ≡ true) × (r ≡ s)
+form-cases : (t : Bool) (s r : Setup) → pick t (Some s) None ≡ Some r → (t ≡ true) × (r ≡ s)
 form-cases true s r e = (refl, cc)
 form-cases false s r e = absurd (let z : ◌≡◌ {A = ℕ} 0 1 = cc in omega arith)
 
-form-other : (t : Bool) (s : Setup) → pick t (Form·.Whole s) Form·.Bad ≡ Form·.Bad → t ≡ false
+form-other : (t : Bool) (s : Setup) → pick t (Some s) None ≡ None → t ≡ false
 form-other true s e = absurd (let z : ◌≡◌ {A = ℕ} 0 1 = cc in omega arith)
 form-other false s e = refl
 
-module _ (ns : List ℕ) (a : Form) (is : a ≡ form_of ns) where
-  pub form-formed : (s : Setup) → a ≡ Form·.Whole s → Small ns → Formed ns s
+module _ (ns : List ℕ) (a : Option Setup) (is : a ≡ form_of ns) where
+  pub form-formed : (s : Setup) → a ≡ Some s → Small ns → Formed ns s
   unfolding form_of
   form-formed s e h = let w = form-cases (is_formed ns) (setup_of ns) s (sym is ∙ e) in record { formed = w.0; is = w.1; small = h }
 
-  pub form-told : (s : Setup) → a ≡ Form·.Whole s → job_text ns s ≡ numbers_text ns
+  pub form-told : (s : Setup) → a ≡ Some s → job_text ns s ≡ numbers_text ns
   unfolding form_of numbers_text
   form-told s e =
       let w = form-cases (is_formed ns) (setup_of ns) s (sym is ∙ e) in
       ap (job_text ns) w.1 ∙ sym (pick_yes (is_formed ns) (job_text ns (setup_of ns)) bad_line w.0)
 
-  pub form-misses : a ≡ Form·.Bad → bad_line ≡ numbers_text ns
+  pub form-misses : a ≡ None → bad_line ≡ numbers_text ns
   unfolding form_of numbers_text
   form-misses e = sym (pick_no (is_formed ns) (job_text ns (setup_of ns)) bad_line (form-other (is_formed ns) (setup_of ns) (sym is ∙ e)))
 
 -- ---- the input
-parsed-numbers : (room : ℕ) (t : Text) (n : ℕ) → parsed_into room t ≡ Parsed·.Numbers n → (ns : List ℕ) × (t ≡ numbers ns) × (n ≡ length ns) × (n ≤ room)
+parsed-numbers : (room : ℕ) (t : Text) (n : ℕ) → parsed_into room t ≡ Ok n → (ns : List ℕ) × (t ≡ numbers ns) × (n ≡ length ns) × (n ≤ room)
 parsed-numbers room bad n e = absurd (let z : ◌≡◌ {A = ℕ} 0 1 = cc in omega arith)
 parsed-numbers room (numbers ns) n e = go (leb (length ns) room) refl e
   where
-    go : (b : Bool) → leb (length ns) room ≡ b → pick b (Parsed·.Numbers (length ns)) Parsed·.Full ≡ Parsed·.Numbers n
+    go : (b : Bool) → leb (length ns) room ≡ b → pick b (Ok (length ns)) (Err ParseError·.Full) ≡ Ok n
         → (ms : List ℕ) × (numbers ns ≡ numbers ms) × (n ≡ length ms) × (n ≤ room)
     go true t e = let q : n ≡ length ns = cc in (ns, refl, q, omega (arith, leb-true (length ns) room t))
     go false t e = absurd (let z : ◌≡◌ {A = ℕ} 0 1 = cc in omega arith)
 
-parsed-bad : (room : ℕ) (t : Text) → parsed_into room t ≡ Parsed·.Bad → t ≡ bad
-parsed-bad room bad e = refl
-parsed-bad room (numbers ns) e = go (leb (length ns) room) e
-  where
-    go : (b : Bool) → pick b (Parsed·.Numbers (length ns)) Parsed·.Full ≡ Parsed·.Bad → numbers ns ≡ bad
-    go true e = absurd (let z : ◌≡◌ {A = ℕ} 0 1 = cc in omega arith)
-    go false e = absurd (let z : ◌≡◌ {A = ℕ} 0 1 = cc in omega arith)
+-- where there is room for the numbers of any text that is numbers, only a bad one is not read
+parsed-not : (room : ℕ) (t : Text) (err : ParseError) → ((ns : List ℕ) → t ≡ numbers ns → length ns ≤ room) → parsed_into room t ≡ Err err → t ≡ bad
+parsed-not room bad err h e = refl
+parsed-not room (numbers ns) err h e =
+    let q : Ok (length ns) ≡ Err err = sym (pick_yes (leb (length ns) room) (Ok (length ns)) (Err ParseError·.Full) (le-leb (length ns) room (h ns refl))) ∙ e in
+    absurd (let z : ◌≡◌ {A = ℕ} 0 1 = cc in omega arith)
 
-never-full : (room : ℕ) (t : Text) → ((ns : List ℕ) → t ≡ numbers ns → length ns ≤ room) → parsed_into room t ≡ Parsed·.Full → ⊥
-never-full room bad h e = let z : ◌≡◌ {A = ℕ} 0 1 = cc in omega arith
-never-full room (numbers ns) h e =
-    let q : Parsed·.Numbers (length ns) ≡ Parsed·.Full = sym (pick_yes (leb (length ns) room) (Parsed·.Numbers (length ns)) Parsed·.Full (le-leb (length ns) room (h ns refl))) ∙ e in
-    let z : ◌≡◌ {A = ℕ} 0 1 = cc in omega arith
-
-module _ (input d : List ℕ) (a : Parsed) (x : List ℕ) (room : length d ≡ 8192) (g : Parses (input_text input) d a x) where
-  module _ (n : ℕ) (e : a ≡ Parsed·.Numbers n) where
+module _ (input d : List ℕ) (a : Result ℕ ParseError) (x : List ℕ) (room : length d ≡ 8192) (g : Parses (input_text input) d a x) where
+  module _ (n : ℕ) (e : a ≡ Ok n) where
     found : (ns : List ℕ) × (input_text input ≡ numbers ns) × (n ≡ length ns) × (n ≤ length d)
     found = parsed-numbers (length d) (input_text input) n (sym g.answered ∙ e)
 
@@ -249,13 +242,10 @@ module _ (input d : List ℕ) (a : Parsed) (x : List ℕ) (room : length d ≡ 8
     unfolding printed
     input-told = ap numbers_text stored ∙ sym (ap text_for found.1)
 
-  pub input-bad : a ≡ Parsed·.Bad → bad_line ≡ printed input
+  pub input-not : (err : ParseError) → a ≡ Err err → bad_line ≡ printed input
   unfolding printed
-  input-bad e = sym (ap text_for (parsed-bad (length d) (input_text input) (sym g.answered ∙ e)))
-
-  pub input-never : a ≡ Parsed·.Full → bad_line ≡ printed input
-  input-never e =
-      absurd (never-full (length d) (input_text input) (λ ns q. omega (arith, room, input-few input ns q)) (sym g.answered ∙ e))
+  input-not err e =
+      sym (ap text_for (parsed-not (length d) (input_text input) err (λ ns q. omega (arith, room, input-few input ns q)) (sym g.answered ∙ e)))
 
 -- ---- the call
 pub writes-counts : (t : List ℕ) (x : List ℕ) (r : ℕ) (y : List ℕ) → Prints t 0 x r y → IsPrefixLen r y × Prints t 0 x r y

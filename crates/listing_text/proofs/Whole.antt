@@ -32,7 +32,8 @@ use Rattle.listing_steps.specs.Steps.{answer_to, board_past, answers_text, board
 use Rattle.listing_end.specs.Ending.{refused_line, planes_text, dead_end_text, scan_text, end_text, panel_with}
 use Rattle.listing_text.specs.Printed.{run_text, fresh_for, unless_number, setup_refusal, tiles_of, job_text, numbers_text, text_for, printed}
 use Rattle.listing_text.proofs.Telling.{board-few}
-use Rattle.rules.specs.Answers.{Answer}
+use Rattle.std.specs.Prelude.{Option, Some, None, Ok, Err}
+use Rattle.rules.specs.Answers.{Answer, number}
 
 -- ---- planes keep their lengths
 pub record Sized (n : ℕ) (b : Board) : Type 0 where
@@ -97,9 +98,9 @@ dead-end-length cell = simp length-append (omega (arith, decimal-length cell.0, 
 
 scan-length : (d : Answer (Option Cell)) → length (scan_text d) ≤ 31
 unfolding scan_text
-scan-length (DeadEnd·.At cell) = dead-end-length cell
-scan-length DeadEnd·.Nowhere = omega arith
-scan-length (DeadEnd·.Refused n) = omega (arith, refused-length n)
+scan-length (Ok (Some cell)) = dead-end-length cell
+scan-length (Ok None) = omega arith
+scan-length (Err r) = omega (arith, refused-length (number r))
 
 planes-length : (n : ℕ) (b : Board) (cols : ℕ) → Sized n b → length (planes_text b cols) ≤ 20 + n * 33
 unfolding planes_text

@@ -21,10 +21,7 @@ const STORE: usize = 14_112;
 fn clip(n: u32) -> u8
     ensures { result ≡ min 255 n }
 {
-    if 255 < n {
-        return 255;
-    }
-    n as u8
+    n.min(255) as u8
 }
 
 // The sample's cells, which follow the first five numbers.
@@ -32,10 +29,8 @@ fn copy_cells(sample: &mut [u8], numbers: &[u32])
     requires { 5 + length sample.old ≤ length numbers.now }
     ensures { after sample ≡ clipped numbers.now (length (before sample)) }
 {
-    let mut k = 0;
-    while k < sample.len() {
-        sample[k] = clip(numbers[5 + k]);
-        k += 1;
+    for (k, cell) in sample.iter_mut().enumerate() {
+        *cell = clip(numbers[5 + k]);
     }
 }
 
@@ -53,14 +48,13 @@ fn run(
     requires { (Planes (panel_with setup tiles.now) (board pieces.old weights.old counts.old)) × (Walks numbers.now from) }
     ensures { Prints (fresh_run setup tiles.now (steps_from numbers.now from)) 0 (before out) result (after out) }
 {
-    let rows = setup.board.rows;
-    let cols = setup.board.cols;
-    board_fresh::fresh(
+    // Accepted: the planes and the tiles are such as it asks.
+    let _ = board_fresh::fresh(
         pieces,
         weights,
         counts,
-        rows,
-        cols,
+        setup.board.rows,
+        setup.board.cols,
         tiles.len() / rules::TILE_CELLS,
     );
     let next = run_steps(pieces, weights, counts, out, 0, tiles, setup, numbers, from);
@@ -95,7 +89,7 @@ fn list_sample(out: &mut [u8], sample: &mut [u8], numbers: &[u32], setup: Setup)
 {
     copy_cells(sample, numbers);
     let mut store = [0u8; STORE];
-    let answer = tiles::extract_tiles(
+    let extracted = tiles::extract_tiles(
         sample,
         setup.sample.rows,
         setup.sample.cols,
@@ -105,7 +99,7 @@ fn list_sample(out: &mut [u8], sample: &mut [u8], numbers: &[u32], setup: Setup)
         &mut store,
     );
     let from = setup.sample.rows * setup.sample.cols + 7;
-    match answer {
+    match extracted {
         Ok(n) => run_on_planes(
             out,
             &store[..n * rules::TILE_CELLS],
@@ -113,7 +107,7 @@ fn list_sample(out: &mut [u8], sample: &mut [u8], numbers: &[u32], setup: Setup)
             numbers,
             from,
         ),
-        Err(no) => put_refused(out, 0, no),
+        Err(refusal) => put_refused(out, 0, refusal),
     }
 }
 

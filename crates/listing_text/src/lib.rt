@@ -9,9 +9,6 @@ ghost use Rattle.listing_text.specs.Counts.{IsPrefixLen};
 ghost use Rattle.listing_text.specs.Printed.{bad_line, numbers_text, printed};
 ghost use Rattle.listing_steps.specs.Walks.{Small};
 
-use listing_job::Form;
-use listing_numbers::Parsed;
-
 // No output is longer, so that a buffer of this length holds it whole.
 pub const MAX_OUTPUT: usize = 65_536;
 
@@ -31,8 +28,7 @@ fn list_numbers(out: &mut [u8], numbers: &[u32]) -> usize
     requires { Small numbers.now }
     ensures { Prints (numbers_text numbers.now) 0 (before out) result (after out) }
 {
-    let form = listing_job::form_of(numbers);
-    let Form::Whole(setup) = form else {
+    let Some(setup) = listing_job::form_of(numbers) else {
         return put_bad_input(out);
     };
     job::list_job(out, numbers, setup)
@@ -42,11 +38,9 @@ fn list_input(out: &mut [u8], input: &[u8]) -> usize
     ensures { Prints (printed input.now) 0 (before out) result (after out) }
 {
     let mut store = [0u32; MAX_NUMBERS];
-    let parsed = listing_numbers::read_input(&mut store, input);
-    match parsed {
-        Parsed::Numbers(n) => list_numbers(out, &store[..n]),
-        Parsed::Bad => put_bad_input(out),
-        Parsed::Full => put_bad_input(out),
+    match listing_numbers::read_input(&mut store, input) {
+        Ok(n) => list_numbers(out, &store[..n]),
+        Err(_) => put_bad_input(out),
     }
 }
 

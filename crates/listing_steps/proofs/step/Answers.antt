@@ -3,4 +3,4 @@ use Rattle.listing_steps.proofs.Walking.{stepped}
 use Rattle.listing_steps.proofs.step.Goals as goal
 
 pub returns : goal.returns
-returns c = stepped _ _ _ _ c.take_step-no.ensures c.put_number_line.ensures
+returns c = stepped _ _ _ _ c.take_step.ensures c.written-no.ensures c.put_number_line.ensures

@@ -20,8 +20,8 @@ bounds-numbers-p-then-numbers-p-eq1 c = omega (arith, four c.args.numbers.now c.
 
 pub returns-then-numbers-p-eq1 : goal.returns-then-numbers-p-eq1
 unfolding panel_with
-returns-then-numbers-p-eq1 c = took-lay _ _ _ _ _ _ _ (at-lay _ _ c.requires.1 c.requires.0.whole c.if-numbers-p-eq1.true) c.place-there.ensures c.lay.ensures c.laid.ensures
+returns-then-numbers-p-eq1 c = took-lay _ _ _ _ _ _ _ (at-lay _ _ c.requires.1 c.requires.0.whole c.if-numbers-p-eq1.true) c.place-there.ensures c.lay.ensures
 
-pub returns : goal.returns
+pub returns-else-numbers-p-eq1 : goal.returns-else-numbers-p-eq1
 unfolding panel_with
-returns c = took-lift _ _ _ _ _ _ (at-lift _ _ c.requires.1 c.requires.0.whole c.if-numbers-p-eq1.false) c.place-there.ensures c.lift.ensures c.lifted.ensures
+returns-else-numbers-p-eq1 c = took-lift _ _ _ _ _ _ (at-lift _ _ c.requires.1 c.requires.0.whole c.if-numbers-p-eq1.false) c.place-there.ensures c.lift.ensures

@@ -8,20 +8,20 @@ use borrow.Author.Rules.{rules}
 use Rattle.listing_text.proofs.job.copy_cells.Goals as goal
 
 pub loop-k-init : goal.loop-k-init
-loop-k-init c = (search rules, search rules, swept_none _ _ _)
+loop-k-init c = (search rules, swept_none _ _ _)
 
 pub overflow_add-k : goal.overflow_add-k
-overflow_add-k c = omega (arith, c.requires, c.loop-k.invariant.1)
+overflow_add-k c = omega (arith, c.requires, c.loop-k.invariant.0)
 
 pub offset_bounds-numbers-k : goal.offset_bounds-numbers-k
-offset_bounds-numbers-k c = omega (arith, c.requires, c.loop-k.invariant.1)
+offset_bounds-numbers-k c = omega (arith, c.requires, c.loop-k.invariant.0)
 
 pub bounds-numbers-k : goal.bounds-numbers-k
-bounds-numbers-k c = omega (arith, c.requires, c.loop-k.invariant.1)
+bounds-numbers-k c = omega (arith, c.requires, c.loop-k.invariant.0)
 
 pub loop-k-preserved : goal.loop-k-preserved
-loop-k-preserved c = (omega arith, search rules, swept-turn _ _ _ _ _ _ (omega (arith, c.loop-k-test.true, c.loop-k.invariant.1)) c.loop-k.invariant.2 c.clip.ensures)
+loop-k-preserved c = (search rules, swept-turn _ _ _ _ _ _ (omega (arith, c.loop-k-test.true, c.loop-k.invariant.0)) c.loop-k.invariant.1 c.clip.ensures)
 
 pub returns : goal.returns
 unfolding clipped
-returns c = c.loop-k.invariant.2 ∙ swept_all _ _ _ _ (omega (arith, c.loop-k-test.false, c.loop-k.invariant.1))
+returns c = c.loop-k.invariant.1 ∙ swept_all _ _ _ _ (omega (arith, c.loop-k-test.false, c.loop-k.invariant.0))

@@ -13,19 +13,19 @@ pub copy_cells-requires : goal.copy_cells-requires
 copy_cells-requires c = omega (arith, c.requires.1, cells-there c.args.numbers.now c.args.setup c.requires.0)
 
 pub overflow_mul-store : goal.overflow_mul-store
-overflow_mul-store c = omega (arith, tiles-few _ _ c.requires.0 _ _ _ _ (c.copy_cells.ensures ∙ ap (clipped _) c.requires.1) (length-replicate {A = ℕ} 14112 0) c.extract_tiles-answer.ensures _ c.in-Tiles.is)
+overflow_mul-store c = omega (arith, tiles-few _ _ c.requires.0 _ _ _ _ (c.copy_cells.ensures ∙ ap (clipped _) c.requires.1) (length-replicate {A = ℕ} 14112 0) c.extract_tiles-extracted.ensures _ c.in-Ok.is)
 
 pub slice_bounds-store-end : goal.slice_bounds-store-end
-slice_bounds-store-end c = omega (arith, c.extract_tiles-answer.auto.store, length-replicate {A = ℕ} 14112 0, tiles-few _ _ c.requires.0 _ _ _ _ (c.copy_cells.ensures ∙ ap (clipped _) c.requires.1) (length-replicate {A = ℕ} 14112 0) c.extract_tiles-answer.ensures _ c.in-Tiles.is)
+slice_bounds-store-end c = omega (arith, c.extract_tiles-extracted.auto.store, length-replicate {A = ℕ} 14112 0, tiles-few _ _ c.requires.0 _ _ _ _ (c.copy_cells.ensures ∙ ap (clipped _) c.requires.1) (length-replicate {A = ℕ} 14112 0) c.extract_tiles-extracted.ensures _ c.in-Ok.is)
 
 pub slice_bounds-run_on_planes-end : goal.slice_bounds-run_on_planes-end
-slice_bounds-run_on_planes-end c = sym (length-take-le _ _ (omega (arith, c.extract_tiles-answer.auto.store, length-replicate {A = ℕ} 14112 0, tiles-few _ _ c.requires.0 _ _ _ _ (c.copy_cells.ensures ∙ ap (clipped _) c.requires.1) (length-replicate {A = ℕ} 14112 0) c.extract_tiles-answer.ensures _ c.in-Tiles.is)))
+slice_bounds-run_on_planes-end c = sym (length-take-le _ _ (omega (arith, c.extract_tiles-extracted.auto.store, length-replicate {A = ℕ} 14112 0, tiles-few _ _ c.requires.0 _ _ _ _ (c.copy_cells.ensures ∙ ap (clipped _) c.requires.1) (length-replicate {A = ℕ} 14112 0) c.extract_tiles-extracted.ensures _ c.in-Ok.is)))
 
 pub run_on_planes-requires : goal.run_on_planes-requires
-run_on_planes-requires c = (tiles-fine _ _ c.requires.0 _ _ _ _ (c.copy_cells.ensures ∙ ap (clipped _) c.requires.1) (length-replicate {A = ℕ} 14112 0) c.extract_tiles-answer.ensures _ c.in-Tiles.is, board-up _ _ c.requires.0, walks _ _ c.requires.0)
+run_on_planes-requires c = (tiles-fine _ _ c.requires.0 _ _ _ _ (c.copy_cells.ensures ∙ ap (clipped _) c.requires.1) (length-replicate {A = ℕ} 14112 0) c.extract_tiles-extracted.ensures _ c.in-Ok.is, board-up _ _ c.requires.0, walks _ _ c.requires.0)
 
-pub returns-in-Tiles : goal.returns-in-Tiles
-returns-in-Tiles c = job-done _ _ c.requires.0 _ _ _ _ (c.copy_cells.ensures ∙ ap (clipped _) c.requires.1) (length-replicate {A = ℕ} 14112 0) c.extract_tiles-answer.ensures _ c.in-Tiles.is c.run_on_planes.ensures
+pub returns-in-Ok : goal.returns-in-Ok
+returns-in-Ok c = job-done _ _ c.requires.0 _ _ _ _ (c.copy_cells.ensures ∙ ap (clipped _) c.requires.1) (length-replicate {A = ℕ} 14112 0) c.extract_tiles-extracted.ensures _ c.in-Ok.is c.run_on_planes.ensures
 
-pub returns-in-Refused : goal.returns-in-Refused
-returns-in-Refused c = writes_as (job-refused _ _ c.requires.0 _ _ _ _ (c.copy_cells.ensures ∙ ap (clipped _) c.requires.1) (length-replicate {A = ℕ} 14112 0) c.extract_tiles-answer.ensures _ c.in-Refused.is) c.put_refused.ensures
+pub returns-in-Err : goal.returns-in-Err
+returns-in-Err c = writes_as (job-refused _ _ c.requires.0 _ _ _ _ (c.copy_cells.ensures ∙ ap (clipped _) c.requires.1) (length-replicate {A = ℕ} 14112 0) c.extract_tiles-extracted.ensures _ c.in-Err.is) c.put_refused.ensures
