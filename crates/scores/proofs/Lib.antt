@@ -1,4 +1,3 @@
 pub mod Region
-pub mod Accept
 pub mod Coincide
 pub mod Numbers

@@ -1,5 +1,0 @@
--- `scores::ordered` meets its contract: the start is the lesser of the two ends, as its callee answers. Assumes nothing.
-use Rattle.scores.proofs.ordered.Goals as goal
-
-pub returns : goal.returns
-returns c = rw c.least.ensures
