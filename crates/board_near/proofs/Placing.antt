@@ -55,7 +55,7 @@ module _ (rows cols : ℕ) (w : World) (o : Offset) where
         (sym (none-fails (place_checks rows cols w o) (g.walled, (g.fitting, r))))
         (ap clip-both (told-by (span_checks o w 2) spans_at e z))
 
-    -- what a caller learns of each way, for `search` beside `chain` and `answers`
+    -- what a caller learns of each way
     pub place-stops : {r : Refusal} → a ≡ Err r → a ≡ near_spans rows cols w o → Err Place ≡ checked (place_checks rows cols w o)
     unfolding near_spans refusal clip-both
     place-stops z e =
@@ -85,5 +85,3 @@ module _ (rows cols : ℕ) (w : World) (o : Offset) where
       where
         three : (x : ℕ) → x + 2 + 1 ≡ x + 3
         three x = omega arith
-
-pub ruleset placing = (place-stops, place-passes)

@@ -83,10 +83,7 @@ pub fn check_laying(
     requires { (entry_of cols cell < length pieces.now) × (length pieces.now ≤ max_cells) }
     ensures { result ≡ checked (laying_checks pieces.now (entry_of cols cell) count colour) }
 {
-    if colour < 1 {
-        return Err(Refusal::Type);
-    }
-    if count < colour {
+    if !(1..=count).contains(&colour) {
         return Err(Refusal::Type);
     }
     let k = cell.0 * cols + cell.1;
