@@ -1,13 +1,12 @@
 // Document 01, "Fit", for calls that have made the checks: how many tiles fit a region, and which colours fit a cell, by its nine windows.
 #![tactic(auto)]
 
-ghost use Rattle.std.specs.Prelude.{◌≡◌, not, ◌+◌, ◌*◌, ◌^◌, ◌<◌, ◌≤◌, eqb, length, get_or, Ok};
-ghost use Rattle.base.specs.Counting.{pick};
+ghost use Rattle.std.specs.Prelude.{◌≡◌, not, ◌+◌, ◌*◌, ◌^◌, ◌<◌, ◌≤◌, eqb, length, Ok};
 ghost use Rattle.rules.specs.Grid.{cell_at, entry_of, flat};
 ghost use Rattle.rules.specs.Bounds.{max_colours, max_tiles};
 ghost use Rattle.rules.specs.Tests.{tiles_in};
 ghost use Rattle.rules.specs.Sets.{bits_of};
-ghost use Rattle.rules.specs.Fit.{pattern, fit_count, serves, has_fitting, window_order, lists, found_at};
+ghost use Rattle.rules.specs.Fit.{pattern, fit_count, serves, has_fitting, lists, found_at};
 ghost use Rattle.fit_pattern.specs.Patch.{shown_in, window_of};
 ghost use Rattle.fit_pattern.specs.Ready.{CellOn, Painted};
 ghost use Rattle.fit_windows.specs.Ready.{Countable, Ready, Coloured};
@@ -18,12 +17,6 @@ use rules::{Cell, Refusal, TileBitset};
 // The place that the cell has in each of its nine windows, in the text's order: the window centred on the cell, then those centred
 // up, left, right and down of it, then on the corners row by row.
 const WINDOW_ORDER: [u8; 9] = [4, 7, 5, 3, 1, 8, 6, 2, 0];
-
-fn one_if(test: bool) -> u32
-    ensures { result ≡ pick test 1 0 }
-{
-    test as u32
-}
 
 // How many tiles fit the region: all of them where it is bare.
 fn fit_count(tiles: &[u8], region: &[u8; rules::TILE_CELLS]) -> u32
@@ -36,10 +29,8 @@ fn fit_count(tiles: &[u8], region: &[u8; rules::TILE_CELLS]) -> u32
         return last as u32;
     }
     let mut count = 0;
-    let mut n = 0;
-    while n < last {
-        count += one_if(fit_pattern::tile_fits(tiles, n, region, 3, 0));
-        n += 1;
+    for n in 0..last {
+        count += u32::from(fit_pattern::tile_fits(tiles, n, region, 3, 0));
     }
     count
 }
@@ -102,13 +93,11 @@ fn window_colours(left: u32, tiles: &[u8], patch: &[u8; fit_pattern::PATCH_CELLS
 {
     let end = tiles.len() / rules::TILE_CELLS;
     let mut missing = left;
-    let mut n = 0;
-    while n < end {
+    for n in 0..end {
         if missing == 0 {
             return left;
         }
         missing = missing_past(missing, tiles, n, patch, q);
-        n += 1;
     }
     left - missing
 }
@@ -137,13 +126,6 @@ fn narrowed(
     window_colours(left, tiles, patch, q)
 }
 
-fn window_place(i: usize) -> u8
-    requires { i < 9 }
-    ensures { result ≡ get_or window_order i 0 }
-{
-    WINDOW_ORDER[i]
-}
-
 // The colours listed at (row, col), as bits. The cells round it are read once, and each window is tested in that patch. The windows are
 // left as soon as no colour is left.
 fn viable_colours(
@@ -161,14 +143,11 @@ fn viable_colours(
 {
     let patch = fit_pattern::patch_at(pieces, rows, cols, row, col);
     let mut left = bitset_colours::all_colours(count);
-    let mut i = 0;
-    while i < 9 {
+    for q in &WINDOW_ORDER {
         if left == 0 {
             return 0;
         }
-        let q = window_place(i) as usize;
-        left = narrowed(left, &patch, tiles, row, col, q);
-        i += 1;
+        left = narrowed(left, &patch, tiles, row, col, usize::from(*q));
     }
     left
 }

