@@ -30,9 +30,9 @@ fn print_length(rt: &impl Print, queue: ForcedPipeline) -> io::Result<()> {
             text(rt, b", length ")?;
             number(rt, n)?;
         }
-        Err(n) => {
+        Err(refusal) => {
             text(rt, b", length refused ")?;
-            number(rt, n as usize)?;
+            number(rt, refusal as usize)?;
         }
     }
     text(rt, b"\n")
@@ -40,16 +40,11 @@ fn print_length(rt: &impl Print, queue: ForcedPipeline) -> io::Result<()> {
 
 fn print_empty(rt: &impl Print, queue: ForcedPipeline) -> io::Result<()> {
     match queue::is_empty(queue) {
-        Ok(empty) => {
-            if empty {
-                text(rt, b"empty\n")
-            } else {
-                text(rt, b"not empty\n")
-            }
-        }
-        Err(n) => {
+        Ok(true) => text(rt, b"empty\n"),
+        Ok(false) => text(rt, b"not empty\n"),
+        Err(refusal) => {
             text(rt, b"empty refused ")?;
-            number(rt, n as usize)?;
+            number(rt, refusal as usize)?;
             text(rt, b"\n")
         }
     }
@@ -61,40 +56,34 @@ fn add(
     positions: ForcedPositions,
 ) -> io::Result<ForcedPipeline> {
     let grown = queue::add_positions(queue, positions);
-    let answer = grown.answer;
     text(rt, b"add ")?;
-    match answer {
+    match grown.answer {
         Ok(()) => number(rt, 0)?,
-        Err(n) => number(rt, n as usize)?,
+        Err(refusal) => number(rt, refusal as usize)?,
     }
-    let after = grown.queue;
-    print_length(rt, after)?;
-    Ok(after)
+    print_length(rt, grown.queue)?;
+    Ok(grown.queue)
 }
 
 fn take(rt: &impl Print, queue: ForcedPipeline) -> io::Result<ForcedPipeline> {
     let taken = queue::take_next(queue);
-    let next = taken.next;
     text(rt, b"take ")?;
-    match next {
-        Ok(Some(position) => number(rt, position.colour as usize)?,
+    match taken.next {
+        Ok(Some(position)) => number(rt, position.colour as usize)?,
         Ok(None) => text(rt, b"nothing")?,
-        Err(n) => {
+        Err(refusal) => {
             text(rt, b"refused ")?;
-            number(rt, n as usize)?;
+            number(rt, refusal as usize)?;
         }
     }
-    let left = taken.queue;
-    print_length(rt, left)?;
-    Ok(left)
+    print_length(rt, taken.queue)?;
+    Ok(taken.queue)
 }
 
 fn take_some(rt: &impl Print, queue: ForcedPipeline, times: usize) -> io::Result<ForcedPipeline> {
     let mut left = queue;
-    let mut i = 0;
-    while i < times {
+    for _ in 0..times {
         left = take(rt, left)?;
-        i += 1;
     }
     Ok(left)
 }
@@ -112,11 +101,8 @@ fn positions(first: u32, len: usize) -> ForcedPositions
     requires { first ≤ 1000 }
 {
     let mut entries = [position(first); rules::ADDED_ROOM];
-    let mut i: u32 = 1;
-    while i < 8 {
-        let next = position(first + i);
-        entries[i as usize] = next;
-        i += 1;
+    for (entry, serial) in entries.iter_mut().zip(first..) {
+        *entry = position(serial);
     }
     ForcedPositions { entries, len }
 }
@@ -147,10 +133,8 @@ fn waiting(place: World, len: usize) -> ForcedPipeline {
 
 fn fill(rt: &impl Print) -> io::Result<ForcedPipeline> {
     let mut queue = queue::new();
-    let mut k: u32 = 0;
-    while k < 8 {
+    for k in 0..8 {
         queue = add(rt, queue, positions(8 * k, 8))?;
-        k += 1;
     }
     Ok(queue)
 }
