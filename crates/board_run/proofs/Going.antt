@@ -3,6 +3,7 @@
 --     going-none, going_more, going-rest, going-laid    without entries, with more, with the first one taken, and with a piece laid
 --     begun-goes, going_step    at the beginning, and after a step
 -- Assumes nothing.
+use Rattle.std.specs.Prelude.{Option}
 use Prim.Native.Nat.{ℕ, ◌+◌, ◌*◌, ◌<◌, ◌≤◌}
 use mathlib.Core.Path.{◌≡◌, sym, ◌∙◌, subst}
 use mathlib.Core.Bool.{true, false, ◌&&◌}

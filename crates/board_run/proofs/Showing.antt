@@ -1,43 +1,43 @@
--- The numbers, planes and slots of the code are those of a run, from its beginning on and after each step.
+-- The numbers, planes and queue of the code are those of a run, from its beginning on and after each step.
 --     none_left, one_left    whether an entry is still forced, by the only colour of its cell
---     shows-room, shows-full    its forced neighbours queued, with room for all and without
---     shows-dropped, shows-lain, shows-laid    the entry next out taken
---     shows-empty    the run before anything is queued
---     ends-full, ends-done, ends-spent    how it ended
---     itself         any numbers, planes and slots are those of some run
+--     shows-round    forced neighbours queued, with room for all and without
+--     shows-dropped, shows-laid    the entry next out taken
+--     shows-begun    the run before an entry is taken
+--     ends-so        how it ended
+--     itself         any numbers, planes and entries are those of some run
 -- Assumes nothing.
 use Prim.Native.Nat.{ℕ, ◌+◌, ◌-◌, ◌<◌, ◌≤◌}
 use mathlib.Core.Path.{◌≡◌, refl, sym, ◌∙◌, ap, subst}
 use mathlib.Core.Bool.{Bool, true, false, not, ◌&&◌}
 use mathlib.Core.List.{List, [], ◌∷◌}
-use native.Mathlib.Omega.{arith}
 use lib.Dec.{eqb}
 use lib.ListN.{length, replicate, length-append, length-replicate}
 use lib.Seq.{take-append_seam}
 use borrow.Author.Tests.{eq-eqb, ne_eqb}
+use Rattle.std.specs.Prelude.{Option, Ok, Err}
+use Rattle.std.specs.Result.{is_err}
 use Rattle.base.specs.Counting.{pick}
-use Rattle.base.specs.Tables.{tab}
 use Rattle.rules.specs.Bounds.{added_room, queue_room}
+use Rattle.rules.specs.Answers.{Answer, end_by}
 use Rattle.rules.specs.Places.{cell_of}
 use Rattle.rules.specs.Grid.{entry_of, laid_on}
 use Rattle.rules.specs.Fit.{lists}
-use Rattle.rules.specs.Forced.{listed_at, only, forces_one, no_position, padded, positions_of, offered, with_positions}
+use Rattle.rules.specs.Forced.{listed_at, only, forces_one, forced_round, no_position, padded, positions_of, offered, with_positions}
 use Rattle.rules.specs.Board.{Panel, Board, shape_of, entry_in, laid}
-use Rattle.rules.specs.ForcedRun.{Run, forced_by, still_forced, queueing, taking, stepped}
+use Rattle.rules.specs.ForcedRun.{Run, still_forced, queueing, taking, stepped, begun}
 use Rattle.rules.specs.declared.World.{World}
 use Rattle.rules.specs.declared.Cell.{Cell}
 use Rattle.rules.specs.declared.ForcedPosition.{ForcedPosition}
-use Rattle.rules.specs.declared.ForcedPositions.{ForcedPositions}
+use Rattle.rules.specs.declared.BoundingBox.{BoundingBox}
+use Rattle.rules.specs.declared.RanOut.{RanOut}
+use Rattle.rules.specs.declared.RunEnd.{RunEnd}
 use Rattle.rules.proofs.ForcedRun.{queued_by, laying_of, added-room, added_full, laid_then, dropped-then, steps_next}
 use Rattle.bitset_colours.proofs.Colours.{one_only}
 use Rattle.fit_forced.specs.Round.{only_at}
-use Rattle.queue_ring.specs.Ring.{Slots, in_slot, slot_of, waiting, Shaped, Ring, Grows}
-use Rattle.queue_ring.proofs.Ring.{next-out}
-use Rattle.queue_ring.proofs.Growing.{room-said, full-said}
+use Rattle.queue_ring.specs.Waiting.{Adds}
+use Rattle.queue_ring.proofs.Growing.{was-all, was-full}
 use Rattle.board_run.specs.Running.{Shows, end_of}
 use Rattle.board_run.specs.declared.Progress.{Progress}
-use Rattle.rules.specs.Answers.{Answer}
-use Rattle.rules.specs.declared.BoundingBox.{BoundingBox}
 
 -- ---- an entry that is still forced
 
@@ -80,165 +80,90 @@ pub offered-of : (l : List ForcedPosition) → offered (positions_of l) ≡ l
 unfolding offered positions_of padded
 offered-of l = take-append_seam l (replicate (added_room - length l) no_position)
 
-module _ (j : Panel) (count : ℕ) (bounds : Option BoundingBox) (place : World) (s : Run) (q after : Slots) (p : Progress) (shown : Shows s s.board q p)
-    (found : ForcedPositions) (all : found ≡ positions_of (forced_by j count bounds s.board place)) (a : Answer ℕ)
-    (g : Grows q p.first p.len (with_positions (waiting q p.first p.len) (offered found)) a after) where
-  -- the entries that are to wait, as the code adds them and as the run has them
+-- the entries that are to wait, as the code adds them and as the run has them
+module _ (j : Panel) (count : ℕ) (bounds : Option BoundingBox) (place : World) (s : Run) (pieces : List ℕ) (old : List ForcedPosition)
+    (same : pieces ≡ s.board.pieces) (waits : old ≡ s.queue) where
   abbrev more : List ForcedPosition
-  more = with_positions (waiting q p.first p.len) (offered found)
+  more = with_positions old (forced_round j.kind pieces j.rows j.cols j.tiles count place j.offset bounds)
 
   more-is : more ≡ queued_by j count bounds place s
   more-is =
-      ap (λ (l : List ForcedPosition). with_positions l (offered found)) shown.queue
-      ∙ ap (with_positions s.queue) (ap offered all ∙ offered-of (forced_by j count bounds s.board place))
+      ap (λ (x : List ℕ). with_positions old (forced_round j.kind x j.rows j.cols j.tiles count place j.offset bounds)) same
+      ∙ ap (λ (l : List ForcedPosition). with_positions l (forced_round j.kind s.board.pieces j.rows j.cols j.tiles count place j.offset bounds)) waits
 
-  pub shows-room : (n : ℕ) → a ≡ Is n
-      → Shows (queueing j count bounds place s) s.board after (record { first = p.first; len = n; taken = p.taken; laid = p.laid; full = false })
-  shows-room n e =
-      let said = room-said more n (sym e ∙ g.answered) in
-      subst (λ (r : Run). Shows r s.board after (record { first = p.first; len = n; taken = p.taken; laid = p.laid; full = false }))
-      (sym (added-room j count bounds place s (subst (λ (l : List ForcedPosition). length l ≤ queue_room) more-is said.0)))
-      (record {
-        board = refl;
-        queue = ap (waiting after p.first) said.1 ∙ g.grown said.0 ∙ more-is;
-        taken = shown.taken;
-        laid = shown.laid;
-        full = refl;
-        ring = record { shaped = g.shaped; begins = shown.ring.begins; in-room = omega (arith, said.0, said.1) };
-      })
+  pub shows-round : (a : Answer Unit) (full : Bool) (new : List ForcedPosition) (taken laid : ℕ) → full ≡ is_err a → taken ≡ s.taken → laid ≡ length s.lain
+      → Adds more old a new → Shows (queueing j count bounds place s) s.board new (record { taken = taken; laid = laid; full = full })
+  shows-round (Ok tt) full new taken laid f t n g =
+      let w = was-all more old g in
+      subst (λ (r : Run). Shows r s.board new (record { taken = taken; laid = laid; full = full }))
+      (sym (added-room j count bounds place s (subst (λ (l : List ForcedPosition). length l ≤ queue_room) more-is w.0)))
+      (record { board = refl; queue = w.1 ∙ more-is; taken = t; laid = n; full = f })
+  shows-round (Err r) full new taken laid f t n g =
+      let w = was-full more old g in
+      subst (λ (r : Run). Shows r s.board new (record { taken = taken; laid = laid; full = full }))
+      (sym (added_full j count bounds place s (subst (λ (l : List ForcedPosition). queue_room < length l) more-is w.0)))
+      (record { board = refl; queue = w.2 ∙ waits; taken = t; laid = n; full = f })
 
-  pub shows-full : (n : ℕ) → a ≡ Refused n
-      → Shows (queueing j count bounds place s) s.board after (record { first = p.first; len = p.len; taken = p.taken; laid = p.laid; full = true })
-  shows-full n e =
-      let over : queue_room < length more = full-said more n (sym e ∙ g.answered) in
-      subst (λ (r : Run). Shows r s.board after (record { first = p.first; len = p.len; taken = p.taken; laid = p.laid; full = true }))
-      (sym (added_full j count bounds place s (subst (λ (l : List ForcedPosition). queue_room < length l) more-is over)))
-      (record {
-        board = refl;
-        queue = g.kept p.len (omega arith) ∙ shown.queue;
-        taken = shown.taken;
-        laid = shown.laid;
-        full = refl;
-        ring = record { shaped = g.shaped; begins = shown.ring.begins; in-room = shown.ring.in-room };
-      })
+-- ---- the beginning
+
+pub shows-begun : (j : Panel) (count : ℕ) (bounds : Option BoundingBox) (place : World) (b : Board) (pieces : List ℕ) (old : List ForcedPosition)
+    → b.pieces ≡ pieces → old ≡ [] → (a : Answer Unit) (full : Bool) (new : List ForcedPosition) → full ≡ is_err a
+    → Adds (with_positions old (forced_round j.kind pieces j.rows j.cols j.tiles count place j.offset bounds)) old a new
+    → Shows (begun j count bounds b place) b new (record { taken = 0; laid = 0; full = full })
+unfolding begun
+shows-begun j count bounds place b pieces old same none a full new f g =
+    shows-round j count bounds place (record { board = b; queue = []; taken = 0; lain = []; full = false }) pieces old (sym same) none a full new 0 0 f
+    refl refl g
 
 -- ---- the entry next out
 
--- the slot behind the first one
-module _ (q : Slots) (p : Progress) (first : ℕ) (next : first ≡ slot_of p.first 1) (ring : Ring q p.first p.len) where
-  pub ring-rest : Ring q first (p.len - 1)
-  ring-rest =
-      let low : slot_of p.first 1 < queue_room = omega arith in
-      record { shaped = ring.shaped; begins = omega arith; in-room = omega (arith, ring.in-room) }
-
-  -- that entry, and those behind it
-  pub split : 0 < p.len → waiting q p.first p.len ≡ in_slot q p.first ∷ waiting q first (p.len - 1)
-  split waits =
-      let n : p.len ≡ p.len - 1 + 1 = omega arith in
-      ap (waiting q p.first) n
-      ∙ next-out q p.first (p.len - 1) ring.begins
-      ∙ ap (λ (m : ℕ). in_slot q p.first ∷ waiting q m (p.len - 1)) (sym next)
-
-module _ (j : Panel) (count : ℕ) (bounds : Option BoundingBox) (s : Run) (b : Board) (q : Slots) (p : Progress) (shown : Shows s b q p) (waits : 0 < p.len)
-    (free : p.full ≡ false) (first : ℕ) (next : first ≡ slot_of p.first 1) (e : ForcedPosition) (out : e ≡ in_slot q p.first) where
-  abbrev rest : List ForcedPosition
-  rest = waiting q first (p.len - 1)
-
-  queue-is : s.queue ≡ e ∷ rest
-  queue-is = sym shown.queue ∙ split q p first next shown.ring waits ∙ ap (λ (x : ForcedPosition). x ∷ rest) (sym out)
-
+module _ (j : Panel) (count : ℕ) (bounds : Option BoundingBox) (s : Run) (b : Board) (l : List ForcedPosition) (p : Progress) (shown : Shows s b l p)
+    (free : p.full ≡ false) (e : ForcedPosition) (rest : List ForcedPosition) (out : l ≡ e ∷ rest) where
   taking-is : stepped j count bounds s ≡ taking j count bounds s e rest
-  taking-is = steps_next j count bounds s e rest (sym shown.full ∙ free) queue-is
+  taking-is = steps_next j count bounds s e rest (sym shown.full ∙ free) (sym shown.queue ∙ out)
 
   still-is : {t : Bool} → still_forced j count b e ≡ t → still_forced j count s.board e ≡ t
   still-is h = ap (λ (x : Board). still_forced j count x e) (sym shown.board) ∙ h
 
   pub shows-dropped : still_forced j count b e ≡ false
-      → Shows (stepped j count bounds s) b q (record { first = first; len = p.len - 1; taken = p.taken + 1; laid = p.laid; full = false })
+      → Shows (stepped j count bounds s) b rest (record { taken = p.taken + 1; laid = p.laid; full = p.full })
   shows-dropped h =
-      subst (λ (r : Run). Shows r b q (record { first = first; len = p.len - 1; taken = p.taken + 1; laid = p.laid; full = false }))
+      subst (λ (r : Run). Shows r b rest (record { taken = p.taken + 1; laid = p.laid; full = p.full }))
       (sym (taking-is ∙ dropped-then j count bounds s e rest (still-is h)))
-      (record {
-        board = shown.board;
-        queue = refl;
-        taken = ap (λ (n : ℕ). n + 1) shown.taken;
-        laid = shown.laid;
-        full = refl;
-        ring = ring-rest q p first next shown.ring;
-      })
+      (record { board = shown.board; queue = refl; taken = ap (λ (n : ℕ). n + 1) shown.taken; laid = shown.laid; full = free })
 
   -- the run when the entry is laid, before its neighbours are queued
-  abbrev pub lain-run : Run
+  abbrev lain-run : Run
   lain-run = laying_of j count bounds s e rest
-
-  pub shows-lain : Shows lain-run lain-run.board q (record { first = first; len = p.len - 1; taken = p.taken + 1; laid = p.laid + 1; full = false })
-  shows-lain =
-      record {
-        board = refl;
-        queue = refl;
-        taken = ap (λ (n : ℕ). n + 1) shown.taken;
-        laid = ap (λ (n : ℕ). n + 1) shown.laid ∙ sym (length-append s.lain (e ∷ []));
-        full = refl;
-        ring = ring-rest q p first next shown.ring;
-      }
 
   -- its board is the one that the code has laid it on
   module _ (b' : Board) (lays : b' ≡ laid (shape_of j) j.tiles b (entry_in j e.coordinates) e.colour) where
     lain-board : b' ≡ lain-run.board
     lain-board = lays ∙ ap (λ (x : Board). laid (shape_of j) j.tiles x (entry_in j e.coordinates) e.colour) shown.board
 
-    pub lain-pieces : lain-run.board.pieces ≡ b'.pieces
-    lain-pieces = ap (λ (x : Board). x.pieces) (sym lain-board)
+    pub shows-laid : still_forced j count b e ≡ true → (a : Answer Unit) (full : Bool) (new : List ForcedPosition) → full ≡ is_err a
+        → Adds (with_positions rest (forced_round j.kind b'.pieces j.rows j.cols j.tiles count e.coordinates j.offset bounds)) rest a new
+        → Shows (stepped j count bounds s) b' new (record { taken = p.taken + 1; laid = p.laid + 1; full = full })
+    shows-laid h a full new f g =
+        subst (λ (x : Run). Shows x b' new (record { taken = p.taken + 1; laid = p.laid + 1; full = full }))
+        (sym (taking-is ∙ laid_then j count bounds s e rest (still-is h)))
+        (subst (λ (x : Board). Shows (queueing j count bounds e.coordinates lain-run) x new (record { taken = p.taken + 1; laid = p.laid + 1; full = full }))
+        (sym lain-board)
+        (shows-round j count bounds e.coordinates lain-run b'.pieces rest (ap (λ (x : Board). x.pieces) lain-board) refl a full new (p.taken + 1) (p.laid + 1) f
+        (ap (λ (n : ℕ). n + 1) shown.taken)
+        (ap (λ (n : ℕ). n + 1) shown.laid ∙ sym (length-append s.lain (e ∷ [])))
+        g))
 
-    pub shows-laid : still_forced j count b e ≡ true → (after : Slots) (r : Progress)
-        → Shows (queueing j count bounds e.coordinates lain-run) lain-run.board after r → Shows (stepped j count bounds s) b' after r
-    shows-laid h after r shows =
-        subst (λ (x : Run). Shows x b' after r) (sym (taking-is ∙ laid_then j count bounds s e rest (still-is h)))
-        (subst (λ (x : Board). Shows (queueing j count bounds e.coordinates lain-run) x after r) (sym lain-board) shows)
+-- ---- any numbers, planes and entries are those of a run
 
--- ---- the beginning
+abbrev pub itself : Board → List ForcedPosition → Progress → Run
+itself b l p = record { board = b; queue = l; taken = p.taken; lain = replicate p.laid no_position; full = p.full }
 
-pub shows-empty : (b : Board) (q : Slots) → Shaped q
-    → Shows (record { board = b; queue = []; taken = 0; lain = []; full = false }) b q (record { first = 0; len = 0; taken = 0; laid = 0; full = false })
-unfolding waiting tab
-shows-empty b q shaped =
-    record {
-      board = refl;
-      queue = refl;
-      taken = refl;
-      laid = refl;
-      full = refl;
-      ring = record { shaped = shaped; begins = omega arith; in-room = omega arith };
-    }
-
--- ---- any numbers, planes and slots are those of a run
-
-abbrev pub itself : Board → Slots → Progress → Run
-itself b q p =
-    record { board = b; queue = waiting q p.first p.len; taken = p.taken; lain = replicate p.laid no_position; full = p.full }
-
-pub shows-itself : (b : Board) (q : Slots) (p : Progress) → Ring q p.first p.len → Shows (itself b q p) b q p
-shows-itself b q p ring =
-    record { board = refl; queue = refl; taken = refl; laid = sym (length-replicate p.laid no_position); full = refl; ring = ring }
+pub shows-itself : (b : Board) (l : List ForcedPosition) (p : Progress) → Shows (itself b l p) b l p
+shows-itself b l p = record { board = refl; queue = refl; taken = refl; laid = sym (length-replicate p.laid no_position); full = refl }
 
 -- ---- the end
 
-pub nobody : (q : Slots) (first : ℕ) → waiting q first 0 ≡ []
-unfolding waiting tab
-nobody q first = refl
-
-module _ (s : Run) (b : Board) (q : Slots) (p : Progress) (shown : Shows s b q p) where
-  pub ends-full : p.full ≡ true → Full p.taken p.laid ≡ end_of s
-  ends-full h = rw (← shown.full, h, shown.taken, shown.laid)
-
-  module _ (free : p.full ≡ false) where
-    pub ends-done : p.len ≡ 0 → Done p.taken p.laid ≡ end_of s
-    ends-done h =
-        let none : s.queue ≡ [] = sym shown.queue ∙ ap (waiting q p.first) h ∙ nobody q p.first in
-        rw (← shown.full, free, none, shown.taken, shown.laid)
-
-    pub ends-spent : (p.len ≡ 0 → ⊥) → Spent p.taken p.laid ≡ end_of s
-    ends-spent h =
-        let some : s.queue ≡ in_slot q p.first ∷ waiting q (slot_of p.first 1) (p.len - 1) =
-        sym shown.queue ∙ split q p (slot_of p.first 1) refl shown.ring (omega arith) in
-        rw (← shown.full, free, some, shown.taken, shown.laid)
+pub ends-so : (s : Run) (b : Board) (l : List ForcedPosition) (p : Progress) → Shows s b l p → {end : RunEnd} → end ≡ end_by p.full l
+    → ◌≡◌ {A = RanOut} (record { end = end; taken = p.taken; laid = p.laid }) (end_of s)
+ends-so s b l p shown e = rw (e, shown.full, shown.queue, shown.taken, shown.laid)

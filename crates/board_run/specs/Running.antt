@@ -1,17 +1,16 @@
--- A forced run beneath its checks: what it leans on from step to step, and when the numbers, the planes and the slots of the code are those
+-- A forced run beneath its checks: what it leans on from step to step, and when the numbers, the planes and the queue of the code are those
 -- of a run.
-use Rattle.std.specs.Prelude.{ℕ, ◌+◌, ◌-◌, ◌*◌, ◌<◌, ◌≤◌, ◌≡◌, true, false, List, length, get_or}
+use Rattle.std.specs.Prelude.{Option, ℕ, ◌+◌, ◌*◌, ◌<◌, ◌≤◌, ◌≡◌, true, false, List, length, get_or}
 use Rattle.base.specs.Tables.{Each}
 use Rattle.base.specs.Refusal.{Gives}
 use Rattle.rules.specs.Bounds.{max_colours, max_weight, max_budget}
 use Rattle.rules.specs.Tests.{offset_fits, on_board}
-use Rattle.rules.specs.Answers.{Answer, run_answer}
+use Rattle.rules.specs.Answers.{end_by}
 use Rattle.rules.specs.Board.{Panel, Board}
 use Rattle.rules.specs.ForcedRun.{Run, run_out}
 use Rattle.rules.specs.declared.World.{World}
 use Rattle.rules.specs.declared.ForcedPosition.{ForcedPosition}
 use Rattle.fit_windows.specs.Ready.{Countable, Ready}
-use Rattle.queue_ring.specs.Ring.{Slots, slot_of, waiting, Ring}
 use Rattle.board_weights.specs.Shares.{Light}
 use Rattle.board_run.specs.declared.Progress.{Progress}
 use Rattle.rules.specs.declared.BoundingBox.{BoundingBox}
@@ -28,10 +27,9 @@ pub record Going (j : Panel) (count : ℕ) (b : Board) (l : List ForcedPosition)
   pub on : Each (λ e. on_board j.rows j.cols e.coordinates j.offset ≡ true) l
 
 -- an entry waits and may be taken
-pub record Turning (j : Panel) (count : ℕ) (b : Board) (q : Slots) (p : Progress) : Type 0 where
-  pub going : Going j count b (waiting q p.first p.len) p.taken
-  pub ring : Ring q p.first p.len
-  pub waits : 0 < p.len
+pub record Turning (j : Panel) (count : ℕ) (b : Board) (l : List ForcedPosition) (p : Progress) : Type 0 where
+  pub going : Going j count b l p.taken
+  pub waits : 0 < length l
   pub free : p.full ≡ false
   pub small : p.taken < max_budget
   pub fewer : p.laid ≤ p.taken
@@ -46,24 +44,19 @@ pub record Laying (j : Panel) (b : Board) (e : ForcedPosition) : Type 0 where
   pub on : on_board j.rows j.cols e.coordinates j.offset ≡ true
   pub low : e.colour ≤ max_colours
 
--- the numbers when the entry next out is taken, of which so many were laid then
-abbrev pub taken : Progress → ℕ → Progress
-taken p laid = record { first = slot_of p.first 1; len = p.len - 1; taken = p.taken + 1; laid = laid; full = false }
-
--- the board, the slots and the numbers are those of a run
-pub record Shows (s : Run) (b : Board) (q : Slots) (p : Progress) : Type 0 where
+-- the board, the entries that wait and the numbers are those of a run
+pub record Shows (s : Run) (b : Board) (l : List ForcedPosition) (p : Progress) : Type 0 where
   pub board : b ≡ s.board
-  pub queue : waiting q p.first p.len ≡ s.queue
+  pub queue : l ≡ s.queue
   pub taken : p.taken ≡ s.taken
   pub laid : p.laid ≡ length s.lain
   pub full : p.full ≡ s.full
-  pub ring : Ring q p.first p.len
 
 -- how a run ended
-abbrev pub end_of : Run → Answer RanOut
-end_of s = run_answer 0 s.full s.queue s.taken (length s.lain)
+abbrev pub end_of : Run → RanOut
+end_of s = record { end = end_by s.full s.queue; taken = s.taken; laid = length s.lain }
 
 -- the forced pieces run out, the checks made
-abbrev pub Ends : Panel → ℕ → World → Option BoundingBox → ℕ → Board → Answer RanOut → Board → Type 0
+abbrev pub Ends : Panel → ℕ → World → Option BoundingBox → ℕ → Board → RanOut → Board → Type 0
 Ends j count place bounds budget old =
     Gives (end_of (run_out j count bounds old place budget)) (run_out j count bounds old place budget).board

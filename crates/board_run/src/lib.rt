@@ -2,30 +2,30 @@
 // waits, the budget is spent or the queue has no room. The planes are read only round the places of the run.
 #![tactic(auto)]
 
-ghost use Rattle.std.specs.Prelude.{◌≡◌, true, not, ◌&&◌, List, [], ℕ, ◌+◌, ◌<◌, ◌≤◌, ltb};
-ghost use Rattle.rules.specs.Bounds.{queue_room, max_budget};
+ghost use Rattle.std.specs.Prelude.{◌≡◌, true, not, ◌&&◌, List, [], ℕ, ◌+◌, ◌≤◌, ltb, length};
+ghost use Rattle.rules.specs.Answers.{end_by};
+ghost use Rattle.rules.specs.Bounds.{max_budget};
 ghost use Rattle.rules.specs.Tests.{on_wall, on_board};
 ghost use Rattle.rules.specs.Grid.{flat};
+ghost use Rattle.rules.specs.Forced.{forced_round, with_positions};
 ghost use Rattle.rules.specs.Board.{Board, entry_in, laid};
-ghost use Rattle.rules.specs.ForcedRun.{Run, still_forced, queueing, stepped, begun};
+ghost use Rattle.rules.specs.ForcedRun.{Run, still_forced, stepped, begun};
 ghost use Rattle.rules.specs.Promises.{board, board_before, board_after, panel};
 ghost use Rattle.fit_windows.specs.Ready.{Ready};
 ghost use Rattle.fit_forced.specs.Round.{Roundable};
-ghost use Rattle.queue_ring.specs.Ring.{Slots, slots, slots_before, slots_after, Shaped, Ring};
-ghost use Rattle.board_run.specs.Running.{Going, Turning, Laying, taken, Shows, end_of, Ends};
+ghost use Rattle.queue_ring.specs.Waiting.{Adds};
+ghost use Rattle.board_run.specs.Running.{Going, Turning, Laying, Shows, Ends};
 
 use board_moves::lay_at;
 use board_near::near_spans;
 use fit_forced::{forced_round, only_colour_at};
 use places::cell_of;
-use queue_ring::{add_positions, entry_in, slot_of};
-use rules::{BoundingBox, ForcedPosition, Offset, RanOut, Refusal, World};
+use queue_ring::Ring;
+use rules::{BoundingBox, ForcedPosition, Offset, RanOut, Refusal, RunEnd, World};
 
-// Where the queue stands in its slots, how many entries were taken and laid, and whether an adding met ROOM.
+// How many entries were taken and laid, and whether an adding met ROOM.
 #[derive(Clone, Copy)]
 pub struct Progress {
-    pub first: usize,
-    pub len: usize,
     pub taken: usize,
     pub laid: usize,
     pub full: bool,
@@ -45,13 +45,9 @@ fn still_forced(
     ensures { (weights counts : List ℕ)
         → result ≡ still_forced (panel rows cols tiles.now offset) count (board pieces.now weights counts) entry }
 {
-    let place = entry.coordinates;
-    let cell = cell_of(place, offset);
+    let cell = cell_of(entry.coordinates, offset);
     let colour = only_colour_at(pieces, rows, cols, tiles, count, cell);
-    if colour == 0 {
-        return false;
-    }
-    colour == entry.colour
+    colour != 0 && colour == entry.colour
 }
 
 // Lays an entry. Its place is on the board, so there are spans round it.
@@ -69,18 +65,24 @@ fn lay_entry(
     ensures { board_after pieces weights counts
         ≡ laid (flat rows cols) tiles.now (board_before pieces weights counts) (entry_in (panel rows cols tiles.now offset) entry.coordinates) entry.colour }
 {
-    let place = entry.coordinates;
-    let Ok(spans) = near_spans(rows, cols, place, offset) else {
+    let Ok(spans) = near_spans(rows, cols, entry.coordinates, offset) else {
         return;
     };
-    let cell = cell_of(place, offset);
-    let colour = entry.colour;
+    let cell = cell_of(entry.coordinates, offset);
     lay_at(
-        pieces, weights, counts, rows, cols, tiles, cell, spans, colour,
+        pieces,
+        weights,
+        counts,
+        rows,
+        cols,
+        tiles,
+        cell,
+        spans,
+        entry.colour,
     );
 }
 
-// Queues the forced neighbours of a place; where the queue has no room for them, the run is full.
+// Queues the forced neighbours of a place; ROOM where the queue has no room for them.
 fn queue_round(
     pieces: &[u32],
     rows: usize,
@@ -90,41 +92,14 @@ fn queue_round(
     place: World,
     offset: Offset,
     bounds: Option<BoundingBox>,
-    queuerows: &mut [i32; rules::QUEUE_ROOM],
-    queuecols: &mut [i32; rules::QUEUE_ROOM],
-    queuecolours: &mut [u32; rules::QUEUE_ROOM],
-    state: Progress,
-) -> Progress
-    requires { Roundable pieces.now rows cols tiles.now count place
-        × Ring (slots queuerows.old queuecols.old queuecolours.old) state.first state.len }
-    ensures { (result.taken ≡ state.taken) × (result.laid ≡ state.laid)
-        × ((s : Run) → s.board.pieces ≡ pieces.now → Shows s s.board (slots_before queuerows queuecols queuecolours) state
-        → Shows (queueing (panel rows cols tiles.now offset) count bounds place s) s.board (slots_after queuerows queuecols queuecolours) result) }
+    queue: &mut Ring,
+) -> Result<(), Refusal>
+    requires { Roundable pieces.now rows cols tiles.now count place }
+    ensures { Adds (with_positions queue.old (forced_round flat pieces.now rows cols tiles.now count place offset bounds))
+        queue.old result queue.new }
 {
     let found = forced_round(pieces, rows, cols, tiles, count, place, offset, bounds);
-    let Ok(len) = add_positions(
-        queuerows,
-        queuecols,
-        queuecolours,
-        state.first,
-        state.len,
-        found,
-    ) else {
-        return Progress {
-            first: state.first,
-            len: state.len,
-            taken: state.taken,
-            laid: state.laid,
-            full: true,
-        };
-    };
-    Progress {
-        first: state.first,
-        len,
-        taken: state.taken,
-        laid: state.laid,
-        full: false,
-    }
+    queue.add_positions(&found)
 }
 
 // The run before an entry is taken: the queue is empty, and the forced neighbours of the place are queued.
@@ -137,49 +112,20 @@ fn begin(
     place: World,
     offset: Offset,
     bounds: Option<BoundingBox>,
-    queuerows: &mut [i32; rules::QUEUE_ROOM],
-    queuecols: &mut [i32; rules::QUEUE_ROOM],
-    queuecolours: &mut [u32; rules::QUEUE_ROOM],
+    queue: &mut Ring,
 ) -> Progress
-    requires { Roundable pieces.now rows cols tiles.now count place × Shaped (slots queuerows.old queuecols.old queuecolours.old) }
+    requires { Roundable pieces.now rows cols tiles.now count place × (queue.old ≡ []) }
     ensures { (result.taken ≡ 0) × (result.laid ≡ 0) × ((b : Board) → b.pieces ≡ pieces.now
-        → Shows (begun (panel rows cols tiles.now offset) count bounds b place) b (slots_after queuerows queuecols queuecolours) result) }
+        → Shows (begun (panel rows cols tiles.now offset) count bounds b place) b queue.new result) }
 {
-    let empty = Progress {
-        first: 0,
-        len: 0,
+    let full = queue_round(
+        pieces, rows, cols, tiles, count, place, offset, bounds, queue,
+    )
+    .is_err();
+    Progress {
         taken: 0,
         laid: 0,
-        full: false,
-    };
-    queue_round(
-        pieces,
-        rows,
-        cols,
-        tiles,
-        count,
-        place,
-        offset,
-        bounds,
-        queuerows,
-        queuecols,
-        queuecolours,
-        empty,
-    )
-}
-
-// The numbers when the entry next out is taken, of which so many were laid then.
-fn after_taking(state: Progress, laid: usize) -> Progress
-    requires { (state.first < queue_room) × (0 < state.len) × (state.taken < max_budget) }
-    ensures { result ≡ taken state laid }
-{
-    let first = slot_of(state.first, 1);
-    Progress {
-        first,
-        len: state.len - 1,
-        taken: state.taken + 1,
-        laid,
-        full: false,
+        full,
     }
 }
 
@@ -194,64 +140,59 @@ fn turn(
     count: u32,
     offset: Offset,
     bounds: Option<BoundingBox>,
-    queuerows: &mut [i32; rules::QUEUE_ROOM],
-    queuecols: &mut [i32; rules::QUEUE_ROOM],
-    queuecolours: &mut [u32; rules::QUEUE_ROOM],
+    queue: &mut Ring,
     state: Progress,
 ) -> Progress
-    requires { Turning (panel rows cols tiles.now offset) count (board pieces.old weights.old counts.old)
-        (slots queuerows.old queuecols.old queuecolours.old) state }
+    requires { Turning (panel rows cols tiles.now offset) count (board pieces.old weights.old counts.old) queue.old state }
     ensures { (result.taken ≡ state.taken + 1) × (result.laid ≤ state.laid + 1)
-        × ((s : Run) → Shows s (board_before pieces weights counts) (slots_before queuerows queuecols queuecolours) state
-        → Shows (stepped (panel rows cols tiles.now offset) count bounds s) (board_after pieces weights counts) (slots_after queuerows queuecols queuecolours) result) }
+        × ((s : Run) → Shows s (board_before pieces weights counts) queue.old state
+        → Shows (stepped (panel rows cols tiles.now offset) count bounds s) (board_after pieces weights counts) queue.new result) }
 {
-    let entry = entry_in(queuerows, queuecols, queuecolours, state.first);
+    let Some(entry) = queue.take_next() else {
+        return state;
+    };
+    let taken = state.taken + 1;
     if !still_forced(pieces, rows, cols, tiles, count, offset, entry) {
-        return after_taking(state, state.laid);
+        return Progress { taken, ..state };
     }
     lay_entry(pieces, weights, counts, rows, cols, tiles, offset, entry);
-    let next = after_taking(state, state.laid + 1);
-    let place = entry.coordinates;
-    queue_round(
+    let full = queue_round(
         pieces,
         rows,
         cols,
         tiles,
         count,
-        place,
+        entry.coordinates,
         offset,
         bounds,
-        queuerows,
-        queuecols,
-        queuecolours,
-        next,
+        queue,
     )
+    .is_err();
+    Progress {
+        taken,
+        laid: state.laid + 1,
+        full,
+    }
 }
 
 // Whether an entry may be taken.
-fn goes_on(state: Progress, budget: usize) -> bool
-    ensures { result ≡ (not state.full && ltb 0 state.len && ltb state.taken budget) }
+fn goes_on(state: Progress, queue: &Ring, budget: usize) -> bool
+    ensures { result ≡ (not state.full && ltb 0 (length queue.now) && ltb state.taken budget) }
 {
-    if state.full {
-        return false;
-    }
-    if state.len == 0 {
-        return false;
-    }
-    state.taken < budget
+    !state.full && !queue.is_empty() && state.taken < budget
 }
 
 // How the run ended. Full is said before spent, and done wherever no entry waits.
-fn ended(state: Progress) -> Result<RanOut, Refusal>
-    ensures { (s : Run) (b : Board) (q : Slots) → Shows s b q state → result ≡ end_of s }
+fn ended(state: Progress, queue: &Ring) -> RunEnd
+    ensures { result ≡ end_by state.full queue.now }
 {
     if state.full {
-        return RunAnswer::Full(state.taken, state.laid);
+        return RunEnd::Full;
     }
-    if state.len == 0 {
-        return RunAnswer::Done(state.taken, state.laid);
+    if queue.is_empty() {
+        return RunEnd::Done;
     }
-    RunAnswer::Spent(state.taken, state.laid)
+    RunEnd::Spent
 }
 
 // Runs out the forced pieces from a place, in a queue of its own.
@@ -267,44 +208,24 @@ pub fn run_out(
     offset: Offset,
     bounds: Option<BoundingBox>,
     budget: usize,
-) -> Result<RanOut, Refusal>
+) -> RanOut
     requires { Going (panel rows cols tiles.now offset) count (board pieces.old weights.old counts.old) [] 0
         × (on_wall place ≡ true) × (budget ≤ max_budget) }
     ensures { Ends (panel rows cols tiles.now offset) count place bounds budget
         (board_before pieces weights counts) result (board_after pieces weights counts) }
 {
-    let mut queuerows = [0i32; rules::QUEUE_ROOM];
-    let mut queuecols = [0i32; rules::QUEUE_ROOM];
-    let mut queuecolours = [0u32; rules::QUEUE_ROOM];
+    let mut queue = Ring::new();
     let mut state = begin(
-        pieces,
-        rows,
-        cols,
-        tiles,
-        count,
-        place,
-        offset,
-        bounds,
-        &mut queuerows,
-        &mut queuecols,
-        &mut queuecolours,
+        pieces, rows, cols, tiles, count, place, offset, bounds, &mut queue,
     );
-    while goes_on(state, budget) {
+    while goes_on(state, &queue, budget) {
         state = turn(
-            pieces,
-            weights,
-            counts,
-            rows,
-            cols,
-            tiles,
-            count,
-            offset,
-            bounds,
-            &mut queuerows,
-            &mut queuecols,
-            &mut queuecolours,
-            state,
+            pieces, weights, counts, rows, cols, tiles, count, offset, bounds, &mut queue, state,
         );
     }
-    ended(state)
+    RanOut {
+        end: ended(state, &queue),
+        taken: state.taken,
+        laid: state.laid,
+    }
 }

@@ -50,8 +50,11 @@ module _ (l old : List ForcedPosition) where
     pub was-full : {r : Refusal} → Adds l old (Err r) new → (queue_room < length l) × (r ≡ Refusal·.Room) × (new ≡ old)
     was-full {r} w =
         ⊎_elim
-        (λ h. (h, (let e : ◌≡◌ {A = Answer Unit} (Err r) (Err Refusal·.Room) = w.answered ∙ sym (adds-full h).answered in cc),
-        w.leaves ∙ sym (adds-full h).leaves))
+        (λ h. (
+          h,
+          (let e : ◌≡◌ {A = Answer Unit} (Err r) (Err Refusal·.Room) = w.answered ∙ sym (adds-full h).answered in cc),
+          w.leaves ∙ sym (adds-full h).leaves,
+        ))
         (λ h. absurd (let z : ◌≡◌ {A = ℕ} 0 1 = cc (w.answered, (adds-all h refl).answered) in omega arith))
         (lt-or-le queue_room (length l))
 

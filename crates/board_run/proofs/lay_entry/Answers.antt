@@ -9,13 +9,12 @@ use Rattle.board_run.proofs.Leaning.{movable, spans-there}
 use Rattle.board_run.proofs.lay_entry.Goals as goal
 
 pub returns-in_default : goal.returns-in_default
-returns-in_default c =
-    spans-there _ _ _ c.requires _ _ c.in_default.is c.near_spans.ensures
+returns-in_default c = spans-there _ _ _ c.requires c.in_default.is c.near_spans.ensures
 
 pub lay_at-requires : goal.lay_at-requires
 lay_at-requires c =
     let p = c.requires in
-    (movable _ _ _ p _ _ _ c.in-Spans.is c.near_spans.ensures _ c.cell_of-cell.ensures, p.low)
+    (movable _ _ _ p c.in-Ok.is c.near_spans.ensures _ c.cell_of-cell.ensures, p.low)
 
 pub returns : goal.returns
 returns c =

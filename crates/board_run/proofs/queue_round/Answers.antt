@@ -1,43 +1,18 @@
--- `board_run::queue_round` meets its contract: the neighbours found are those of the run's board, and there is room for them or not.
--- Assumes nothing.
-use Prim.Native.Nat.{ℕ}
-use mathlib.Core.Path.{refl, sym, ◌∙◌, ap}
+-- `board_run::queue_round` meets its contract: what is offered is what was found, and there are at most eight. Assumes nothing.
 use mathlib.Core.List.{List}
-use Rattle.rules.specs.Grid.{flat}
-use Rattle.rules.specs.Forced.{forced_round, positions_of}
-use Rattle.rules.specs.Promises.{board, panel}
+use mathlib.Core.Path.{◌∙◌, ap, subst}
+use Rattle.rules.specs.Forced.{offered, with_positions}
+use Rattle.rules.specs.declared.ForcedPosition.{ForcedPosition}
+use Rattle.queue_ring.specs.Waiting.{Adds}
 use Rattle.board_run.proofs.Leaning.{found-few}
-use Rattle.board_run.proofs.Showing.{shows-room, shows-full}
+use Rattle.board_run.proofs.Showing.{offered-of}
 use Rattle.board_run.proofs.queue_round.Goals as goal
 
 pub add_positions-requires : goal.add_positions-requires
-add_positions-requires c =
-    let a = c.args in (
-      c.requires.1,
-      found-few (panel a.rows a.cols a.tiles.now a.offset) a.count a.bounds (board a.pieces.now a.pieces.now a.pieces.now) a.place _
-          c.forced_round-found.ensures,
-    )
-
-pub returns-in_default : goal.returns-in_default
-returns-in_default c =
-    let a = c.args in (
-      refl,
-      refl,
-      λ s same shown.
-          shows-full (panel a.rows a.cols a.tiles.now a.offset) a.count a.bounds a.place s _ _ a.state shown _
-          (c.forced_round-found.ensures
-          ∙ ap (λ (p : List ℕ). positions_of (forced_round flat p a.rows a.cols a.tiles.now a.count a.place a.offset a.bounds)) (sym same))
-          _ c.add_positions.ensures _ c.in_default.is,
-    )
+add_positions-requires c = found-few _ _ _ _ _ _ _ _ _ _ c.forced_round-found.ensures
 
 pub returns : goal.returns
 returns c =
-    let a = c.args in (
-      refl,
-      refl,
-      λ s same shown.
-          shows-room (panel a.rows a.cols a.tiles.now a.offset) a.count a.bounds a.place s _ _ a.state shown _
-          (c.forced_round-found.ensures
-          ∙ ap (λ (p : List ℕ). positions_of (forced_round flat p a.rows a.cols a.tiles.now a.count a.place a.offset a.bounds)) (sym same))
-          _ c.add_positions.ensures _ c.in-Is.is,
-    )
+    let q = c.args.queue.now in
+    subst (λ (l : List ForcedPosition). Adds (with_positions q l) q c.add_positions.result c.add_positions.new.self)
+    (ap offered c.forced_round-found.ensures ∙ offered-of _) c.add_positions.ensures

@@ -1,15 +1,16 @@
--- `board_run::run_out` meets its contract. The loop's invariant: numbers, planes and slots are those of the run after so many steps as
+-- `board_run::run_out` meets its contract. The loop's invariant: numbers, planes and entries are those of the run after so many steps as
 -- entries were taken.
 -- Assumes nothing.
 use mathlib.Core.Path.{refl, sym, ◌∙◌}
 use native.Mathlib.Omega.{arith}
 use Rattle.board_run.proofs.Looping.{loop-from, turning, before-budget, loop-turn, loop-end}
+use Rattle.board_run.proofs.Showing.{ends-so}
 use Rattle.board_run.proofs.run_out.Goals as goal
 
 pub begin-state-requires : goal.begin-state-requires
 begin-state-requires c =
     let p = c.requires in
-    (record { ready = p.0.ready; walled = p.1 }, record { rows = refl; cols = refl; colours = refl })
+    (record { ready = p.0.ready; walled = p.1 }, c.new-queue.ensures)
 
 pub loop-offset-init : goal.loop-offset-init
 loop-offset-init c =
@@ -52,4 +53,4 @@ shape_of-counts c =
 pub returns : goal.returns
 returns c =
     let shown = loop-end _ _ _ _ _ _ _ _ _ _ c.loop-offset.invariant (sym c.goes_on.ensures ∙ c.loop-offset-test.false) _ _ (c.begin-state.ensures.2 _ refl) in
-    record { answered = c.ended.ensures _ _ _ shown; leaves = shown.board }
+    record { answered = ends-so _ _ _ _ shown c.ended.ensures; leaves = shown.board }

@@ -1,17 +1,15 @@
--- `board_run::run_out` meets its contract. The loop's invariant: numbers, planes and slots are those of the run after so many steps as
+-- `board_run::run_out` meets its contract. The loop's invariant: numbers, planes and entries are those of the run after so many steps as
 -- entries were taken.
 -- Assumes nothing.
 use Prim.Native.Nat.{◌-◌}
 use Rattle.rules.specs.Promises.{board, panel}
-use Rattle.queue_ring.specs.Ring.{slots}
 use Rattle.board_run.proofs.Looping.{Looping}
 use Rattle.board_run.proofs.run_out.Given as goal
 
 abbrev pub invariant-loop-offset : goal.invariant-loop-offset
 invariant-loop-offset l =
-    Looping (panel l.rows l.cols l.tiles l.offset) l.count l.bounds (board l.initial.pieces l.initial.weights l.initial.counts) (slots l.initial.queuerows l.initial.queuecols l.initial.queuecolours) l.initial.state l.budget
-    (board l.pieces l.weights l.counts) (slots l.queuerows l.queuecols l.queuecolours) l.state
+    Looping (panel l.rows l.cols l.tiles l.offset) l.count l.bounds (board l.initial.pieces l.initial.weights l.initial.counts) l.initial.queue l.initial.state l.budget
+    (board l.pieces l.weights l.counts) l.queue l.state
 
 abbrev pub decreases-loop-offset : goal.decreases-loop-offset
-decreases-loop-offset l =
-    l.budget - l.state.taken
+decreases-loop-offset l = l.budget - l.state.taken
