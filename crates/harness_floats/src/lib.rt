@@ -5,12 +5,12 @@
 ghost use Rattle.rules.specs.Promises.{before, after, Normalises, Multiplies, Divides, ScoresLay, ScoresLift};
 ghost use Rattle.probability_influence.specs.Step.{block_of};
 ghost use Rattle.boundary_slots.specs.Slots.{world, offset_by};
-ghost use Rattle.boundary.specs.Boundary.{Numbered, written_number};
+ghost use Rattle.boundary.specs.Boundary.{Numbered};
 ghost use Rattle.harness_floats.specs.Spans.{span_from};
 
 use boundary::written;
 use boundary_slots::{offset_at, world_at};
-use rules::Span;
+use rules::{Span, Spans};
 
 pub fn port_normalise(
     probabilities: &[f64],
@@ -23,7 +23,7 @@ pub fn port_normalise(
     across: i32,
     out: &mut [f64],
 ) -> u32
-    ensures { Numbered written_number (Normalises probabilities.now rows cols count (world row col) (offset_by down across)
+    ensures { Numbered (Normalises probabilities.now rows cols count (world row col) (offset_by down across)
         (before out)) result (after out) }
 {
     let place = world_at(row, col);
@@ -54,7 +54,7 @@ pub fn port_product(
     across: i32,
     radius: usize,
 ) -> u32
-    ensures { Numbered written_number (Multiplies rows cols count (block_of blockrows blockcols block.now) (world row col) (offset_by down across)
+    ensures { Numbered (Multiplies rows cols count (block_of blockrows blockcols block.now) (world row col) (offset_by down across)
         radius (before probabilities)) result (after probabilities) }
 {
     let place = world_at(row, col);
@@ -88,7 +88,7 @@ pub fn port_quotient(
     across: i32,
     radius: usize,
 ) -> u32
-    ensures { Numbered written_number (Divides rows cols count (block_of blockrows blockcols block.now) (world row col) (offset_by down across)
+    ensures { Numbered (Divides rows cols count (block_of blockrows blockcols block.now) (world row col) (offset_by down across)
         radius (before probabilities)) result (after probabilities) }
 {
     let place = world_at(row, col);
@@ -119,7 +119,7 @@ pub fn port_lay_score(
     down: i32,
     across: i32,
 ) -> u32
-    ensures { Numbered written_number (ScoresLay rows cols counts.now tiles (world row col) (offset_by down across)
+    ensures { Numbered (ScoresLay rows cols counts.now tiles (world row col) (offset_by down across)
         (before scores)) result (after scores) }
 {
     let place = world_at(row, col);
@@ -139,17 +139,13 @@ pub fn port_lift_score(
     colstart: usize,
     colend: usize,
 ) -> u32
-    ensures { Numbered written_number (ScoresLift rows cols counts.now tiles (span_from rowstart rowend) (span_from colstart colend)
+    ensures { Numbered (ScoresLift rows cols counts.now tiles (span_from rowstart rowend) (span_from colstart colend)
         (before scores)) result (after scores) }
 {
-    let answer = scores::aggregate_feasibility(
-        scores,
-        counts,
-        rows,
-        cols,
-        tiles,
-        Span(rowstart, rowend),
-        Span(colstart, colend),
-    );
+    let spans = Spans {
+        rows: Span(rowstart, rowend),
+        cols: Span(colstart, colend),
+    };
+    let answer = scores::aggregate_feasibility(scores, counts, rows, cols, tiles, spans);
     written(answer)
 }

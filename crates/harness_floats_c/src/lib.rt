@@ -4,7 +4,7 @@
 ghost use Rattle.rules.specs.Promises.{before, after, Normalises, Multiplies, Divides, ScoresLay, ScoresLift};
 ghost use Rattle.probability_influence.specs.Step.{block_of};
 ghost use Rattle.boundary_slots.specs.Slots.{world, offset_by};
-ghost use Rattle.boundary.specs.Boundary.{Numbered, written_number};
+ghost use Rattle.boundary.specs.Boundary.{Numbered};
 ghost use Rattle.harness_floats.specs.Spans.{span_from};
 
 #[unsafe(no_mangle)]
@@ -19,7 +19,7 @@ pub extern "C" fn port_normalise(
     across: i32,
     out: &mut [f64],
 ) -> u32
-    ensures { Numbered written_number (Normalises probabilities.now rows cols count (world row col) (offset_by down across)
+    ensures { Numbered (Normalises probabilities.now rows cols count (world row col) (offset_by down across)
         (before out)) result (after out) }
 {
     harness_floats::port_normalise(
@@ -50,7 +50,7 @@ pub extern "C" fn port_product(
     across: i32,
     radius: usize,
 ) -> u32
-    ensures { Numbered written_number (Multiplies rows cols count (block_of blockrows blockcols block.now) (world row col) (offset_by down across)
+    ensures { Numbered (Multiplies rows cols count (block_of blockrows blockcols block.now) (world row col) (offset_by down across)
         radius (before probabilities)) result (after probabilities) }
 {
     harness_floats::port_product(
@@ -84,7 +84,7 @@ pub extern "C" fn port_quotient(
     across: i32,
     radius: usize,
 ) -> u32
-    ensures { Numbered written_number (Divides rows cols count (block_of blockrows blockcols block.now) (world row col) (offset_by down across)
+    ensures { Numbered (Divides rows cols count (block_of blockrows blockcols block.now) (world row col) (offset_by down across)
         radius (before probabilities)) result (after probabilities) }
 {
     harness_floats::port_quotient(
@@ -115,7 +115,7 @@ pub extern "C" fn port_lay_score(
     down: i32,
     across: i32,
 ) -> u32
-    ensures { Numbered written_number (ScoresLay rows cols counts.now tiles (world row col) (offset_by down across)
+    ensures { Numbered (ScoresLay rows cols counts.now tiles (world row col) (offset_by down across)
         (before scores)) result (after scores) }
 {
     harness_floats::port_lay_score(scores, counts, rows, cols, tiles, row, col, down, across)
@@ -133,7 +133,7 @@ pub extern "C" fn port_lift_score(
     colstart: usize,
     colend: usize,
 ) -> u32
-    ensures { Numbered written_number (ScoresLift rows cols counts.now tiles (span_from rowstart rowend) (span_from colstart colend)
+    ensures { Numbered (ScoresLift rows cols counts.now tiles (span_from rowstart rowend) (span_from colstart colend)
         (before scores)) result (after scores) }
 {
     harness_floats::port_lift_score(

@@ -13,6 +13,7 @@ use native.Mathlib.Omega.{arith}
 use lib.Dec.{leb, ltb}
 use lib.ListN.{length, get_or, set, length-set}
 use lib.Ieee.{Float, nan}
+use Rattle.std.specs.Prelude.{Ok}
 use borrow.Author.Tests.{leb-true}
 use Rattle.base.specs.Counting.{pick}
 use Rattle.base.specs.Tables.{tab, those, fold}
@@ -197,7 +198,7 @@ module _ (j : Panel) (flatly : j.kind ≡ flat) (p : List ℕ) (good : Good j p)
 -- after any moves on a panel of the calls: the scores round the place of a lay or a lift are scored, and all scores are those of the board
 pub near-suffices : (rows cols : ℕ) (tiles : List ℕ) (offset : Offset) (moves : List Move) (c : Call) (left : List Float)
     → let s = played (start (panel rows cols tiles offset)) moves in
-    RescoresRound (acted s (call c)) (place_of c) (scores_in s) Done left
+    RescoresRound (acted s (call c)) (place_of c) (scores_in s) (Ok tt) left
     → left ≡ scores_in (acted s (call c))
 near-suffices rows cols tiles offset moves c left p =
     (was-written _ _ _ p).1

@@ -11,6 +11,7 @@ use mathlib.Core.Bool.{true}
 use mathlib.Core.List.{List, [], ◌∷◌, ◌++◌, map, append_assoc, append-nil}
 use lib.ListN.{length}
 use lib.Ieee.{Float}
+use Rattle.std.specs.Prelude.{Ok}
 use borrow.Author.Tests.{eq-eqb}
 use Rattle.base.specs.Refusal.{refusal}
 use Rattle.base.proofs.Chain.{none-fails}
@@ -33,11 +34,11 @@ use Rattle.stand_forced.proofs.Moves.{moves-stand, flat-forced-stay}
 use Rattle.score_stand.specs.Rescoring.{Rescores, scores_in}
 
 -- a state has its scores, whatever the plane held
-pub its-scores : (s : State) (old left : List Float) → Rescores s old Done left → left ≡ scores_in s
+pub its-scores : (s : State) (old left : List Float) → Rescores s old (Ok tt) left → left ≡ scores_in s
 its-scores s old left p = (was-written _ _ _ p).1
 
 -- so equal states have equal ones
-same-scores : (s others : State) (old older left again : List Float) → s ≡ others → Rescores s old Done left → Rescores others older Done again → left ≡ again
+same-scores : (s others : State) (old older left again : List Float) → s ≡ others → Rescores s old (Ok tt) left → Rescores others older (Ok tt) again → left ≡ again
 same-scores s others old older left again e p q = its-scores s old left p ∙ ap scores_in e ∙ sym (its-scores others older again q)
 
 -- a scoring of it is refused for the size, the number of tiles and the length of the plane alone
@@ -58,7 +59,7 @@ told-scorable t old sides number long =
 module _ (j : Panel) (sound : SoundKind j.kind) where
   -- demand 3, where the plane was rescored after the last call
   pub scores-stand : (moves : List Move) → Widenable j.kind (acts_of (start j) moves) → (old left : List Float)
-      → Rescores (played (start j) moves) old Done left
+      → Rescores (played (start j) moves) old (Ok tt) left
       → left ≡ scores_in (state_of (told j (accepted_in (start j) (acts_of (start j) moves))))
   scores-stand moves may old left p = its-scores (played (start j) moves) old left p ∙ ap scores_in (moves-stand j sound moves may)
 
@@ -73,7 +74,7 @@ module _ (rows cols : ℕ) (tiles : List ℕ) (offset : Offset) where
   abbrev this : Panel
   this = panel rows cols tiles offset
 
-  pub flat-scores-stand : (moves : List Move) (old left : List Float) → Rescores (played (start this) moves) old Done left
+  pub flat-scores-stand : (moves : List Move) (old left : List Float) → Rescores (played (start this) moves) old (Ok tt) left
       → left ≡ scores_in (state_of (told this (accepted_in (start this) (acts_of (start this) moves))))
   flat-scores-stand moves = scores-stand this flat_sound moves (flat-may (acts_of (start this) moves))
 
@@ -84,8 +85,8 @@ module _ (rows cols : ℕ) (tiles : List ℕ) (offset : Offset) where
       let made = acts_of (acted there (call (lay count w colour))) between in
       refusal_in there (call (lay count w colour)) ≡ 0
       → NamingAll count between
-      → Rescores (played (start this) (before ++ act (call (lay count w colour)) ∷ between ++ act (call (lift count w)) ∷ after)) old Done left
-      → Rescores (played (start this) (before ++ map act (elsewhere w made) ++ after)) older Done again
+      → Rescores (played (start this) (before ++ act (call (lay count w colour)) ∷ between ++ act (call (lift count w)) ∷ after)) old (Ok tt) left
+      → Rescores (played (start this) (before ++ map act (elsewhere w made) ++ after)) older (Ok tt) again
       → left ≡ again
   scores-never before between after w count colour old older left again lays names =
       same-scores _ _ old older left again (flat-forced-stay rows cols tiles offset before between after w count colour lays names)
@@ -93,11 +94,11 @@ module _ (rows cols : ℕ) (tiles : List ℕ) (offset : Offset) where
   -- in the works' words: lay a piece, lift it, rescore, and every score is what it was
   pub laid-lifted-rescored : (moves : List Move) (w : World) (count colour : ℕ) (old older left again : List Float)
       → refusal_in (played (start this) moves) (call (lay count w colour)) ≡ 0
-      → Rescores (played (start this) moves) old Done left
-      → Rescores (played (start this) (moves ++ act (call (lay count w colour)) ∷ act (call (lift count w)) ∷ [])) older Done again
+      → Rescores (played (start this) moves) old (Ok tt) left
+      → Rescores (played (start this) (moves ++ act (call (lay count w colour)) ∷ act (call (lift count w)) ∷ [])) older (Ok tt) again
       → again ≡ left
   unfolding acts_of elsewhere
   laid-lifted-rescored moves w count colour old older left again lays p q =
       scores-never moves [] [] w count colour older old again left lays tt
-      (subst (λ (l : List Move). Rescores (played (start this) l) older Done again) (sym (append_assoc moves (act (call (lay count w colour)) ∷ []) (act (call (lift count w)) ∷ []))) q)
-      (subst (λ (l : List Move). Rescores (played (start this) l) old Done left) (sym (append-nil (moves ++ []) ∙ append-nil moves)) p)
+      (subst (λ (l : List Move). Rescores (played (start this) l) older (Ok tt) again) (sym (append_assoc moves (act (call (lay count w colour)) ∷ []) (act (call (lift count w)) ∷ []))) q)
+      (subst (λ (l : List Move). Rescores (played (start this) l) old (Ok tt) left) (sym (append-nil (moves ++ []) ∙ append-nil moves)) p)

@@ -1,7 +1,6 @@
 -- `harness_floats::port_quotient` meets its contract: the answer by its definition, passed on. Assumes nothing.
 use Rattle.boundary_slots.proofs.Storing.{world_is, offset-is}
 use Rattle.boundary.proofs.Back.{numbered-at}
-use Rattle.boundary.specs.Boundary.{written_number}
 use mathlib.Core.Path.{◌∙◌}
 use Rattle.rules.specs.declared.World.{World}
 use Rattle.rules.specs.declared.Offset.{Offset}
@@ -12,7 +11,7 @@ use Rattle.harness_floats.proofs.port_quotient.Goals as goal
 pub returns : goal.returns
 returns c =
     let a = c.args in
-    numbered-at written_number
+    numbered-at
     (λ (w : World) (o : Offset). Divides a.rows a.cols a.count (block_of a.blockrows a.blockcols a.block.now) w o a.radius a.probabilities.now)
     (c.world_at-place.ensures ∙ world_is c.ranges.row c.ranges.col)
     (c.offset_at-offset.ensures ∙ offset-is c.ranges.down c.ranges.across)
