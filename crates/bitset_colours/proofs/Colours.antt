@@ -7,11 +7,11 @@
 --     colours-one    where it is one colour, the bits are that colour's bit
 -- Assumes nothing.
 use Prim.Native.Nat.{ℕ, zero, suc, ◌+◌, ◌-◌, ◌*◌, ◌^◌, ◌≤◌, ◌<◌}
-use mathlib.Core.Path.{◌≡◌, refl, sym, ◌∙◌, ap, ap₂}
+use mathlib.Core.Path.{◌≡◌, refl, sym, ◌∙◌, ap}
 use mathlib.Core.Bool.{Bool, true, false, not}
 use mathlib.Core.Logic.{⊎_elim}
 use mathlib.Core.List.{List, [], ◌∷◌, ◌++◌, append_assoc}
-use native.Mathlib.Nat.{pow-suc, le_step, le_of_suc-le-suc, mul-mod_left, sub-zero, zero-mul, one-mul, le_trans, mul-le-mul_right}
+use native.Mathlib.Nat.{pow-suc, le_step, le_of_suc-le-suc, mul-mod_left, sub-zero, zero-mul, one-mul}
 use native.Mathlib.Numerals.{add-one}
 use native.Mathlib.Omega.{arith}
 use borrow.Author.Tests.{eq-eqb, ne_eqb, eqb-true}
@@ -24,9 +24,7 @@ use Rattle.base.specs.Counting.{pick, tally}
 use Rattle.base.proofs.Bools.{never, by-test, same_test}
 use Rattle.base.proofs.Numbers.{lt-or-le}
 use Rattle.base.proofs.Tabled.{those-none, those-next, those-skip, those-ext, length-those}
-use Rattle.rules.specs.Sets.{has, bits_of, colours_of, colour_list}
-use Rattle.rules.specs.Bounds.{max_colours}
-use Rattle.rules.specs.declared.ColourList.{ColourList}
+use Rattle.rules.specs.Sets.{has, bits_of, colours_of}
 use Rattle.rules.specs.Forced.{only}
 use Rattle.bitset_colours.proofs.Digits.{bits-lt, bits-has, bits_back, weigh}
 
@@ -153,9 +151,6 @@ one_only n f =
     (λ t. let u = tally-one n f (sym (colours-tally n f) ∙ eqb-true (length (colours_of n f)) 1 t) in t ∙ rw u.3 (sym (ap not (ne_eqb (u.0 + 1) 0 (λ q. omega arith)))))
     (λ t. t ∙ sym (ap not (eq-eqb (only (colours_of n f)) 0 (sym (only_none (colours_of n f) (λ e. never (eqb (length (colours_of n f)) 1) (eq-eqb (length (colours_of n f)) 1 e) t))))))
 
-abbrev pub list_of : List ℕ → ℕ → ColourList
-list_of colours len = record { colours = colours; len = len }
-
 -- the loop that lists: the colours so far, and 0 in the entries past them
 pub record Filled (room k : ℕ) (f : ℕ → Bool) (colours : List ℕ) (len : ℕ) : Type 0 where
   pub filled : colours ≡ colours_of k f ++ replicate (room - length (colours_of k f)) 0
@@ -196,11 +191,3 @@ filled-turn room k d f colours len inv l b e = go d b e
           few = omega (arith, inv.few);
         }
     go (suc (suc d)) b e = absurd (omega arith)
-
-pub filled-all : (k size : ℕ) (f : ℕ → Bool) (colours : List ℕ) (len : ℕ) → Filled max_colours k f colours len → k ≡ size
-    → list_of colours len ≡ colour_list (colours_of size f)
-filled-all k size f colours len inv e = ap₂ list_of inv.filled inv.long ∙ ap (λ (m : ℕ). colour_list (colours_of m f)) e
-
--- a colour times its digit is no more than the colour
-pub digit-le : (d t : ℕ) → d < 2 → d * t ≤ t
-digit-le d t l = le_trans (mul-le-mul_right t (le_of_suc-le-suc l)) (omega (arith, one-mul t))

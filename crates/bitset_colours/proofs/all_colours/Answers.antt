@@ -2,13 +2,9 @@
 use mathlib.Core.Path.{◌∙◌, ap}
 use Prim.Native.Nat.{ℕ, ◌-◌}
 use native.Mathlib.Omega.{arith}
-use lib.Pow.{pow_pos}
 use Rattle.bitset_colours.proofs.Words.{shl_one}
 use Rattle.bitset_colours.proofs.Digits.{all-is}
 use Rattle.bitset_colours.proofs.all_colours.Goals as goal
-
-pub overflow_sub-result : goal.overflow_sub-result
-overflow_sub-result c = omega (arith, shl_one 32 c.args.size (omega arith), pow_pos c.args.size)
 
 pub returns : goal.returns
 returns c = ap (λ (x : ℕ). x - 1) (shl_one 32 c.args.size (omega arith)) ∙ all-is c.args.size

@@ -8,7 +8,7 @@ use Rattle.bitset_colours.proofs.Words.{has-next}
 use Rattle.bitset_colours.proofs.has_colour.Goals as goal
 
 pub returns-then-t-ne0 : goal.returns-then-t-ne0
-returns-then-t-ne0 c = has-next c.before.args.bits (c.before.args.t - 1) ∙ ap (has c.before.args.bits) (omega (arith, c.if-t-ne0.true))
+returns-then-t-ne0 c = has-next c.args.bits (c.args.t - 1) ∙ ap (has c.args.bits) (omega (arith, c.if-t-ne0.true))
 
 pub returns-else-t-ne0 : goal.returns-else-t-ne0
-returns-else-t-ne0 c = rw c.if-t-ne0.false (sym (has-zero c.before.args.bits))
+returns-else-t-ne0 c = rw c.if-t-ne0.false (sym (has-zero c.args.bits))

@@ -5,4 +5,4 @@ use Rattle.bitset_colours.proofs.Words.{or_is}
 use Rattle.bitset_colours.proofs.with_colour.Goals as goal
 
 pub returns : goal.returns
-returns c = λ n l m. ap (bit_or c.before.args.bits) c.colour_bit.ensures ∙ or_is n c.before.args.bits c.before.args.t l m
+returns c = λ n l m. ap (bit_or c.args.bits) c.colour_bit.ensures ∙ or_is n c.args.bits c.args.t l m
