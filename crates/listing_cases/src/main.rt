@@ -6,15 +6,9 @@ use std::io;
 use std::io::Read;
 use std::rt::Files;
 
-fn digit(n: usize) -> u8 {
-    48 + (n % 10) as u8
-}
-
 // What the program prints for a file, under the file's name. False where there is no such file.
 fn list_case(rt: &(impl Files + Print + Alloc), k: usize) -> io::Result<bool> {
-    let mut name = String::new(rt.alloc());
-    name.push(digit(k / 10) as char)?;
-    name.push(digit(k) as char)?;
+    let name = format!(in rt.alloc(); "{k:02}")?;
     let Ok(file) = File::open(rt, name.as_str()) else {
         return Ok(false);
     };
@@ -31,12 +25,10 @@ fn list_case(rt: &(impl Files + Print + Alloc), k: usize) -> io::Result<bool> {
 }
 
 fn main(rt: HostRuntime) -> io::Result<()> {
-    let mut k = 0;
-    while k < 100 {
+    for k in 0..100 {
         if !list_case(&rt, k)? {
-            return Ok(());
+            break;
         }
-        k += 1;
     }
     Ok(())
 }
