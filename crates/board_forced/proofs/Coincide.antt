@@ -2,6 +2,7 @@
 -- Assumes nothing.
 use Prim.Native.Nat.{ℕ}
 use mathlib.Core.Path.{◌≡◌}
+use Rattle.std.specs.Prelude.{Option}
 use Rattle.base.proofs.Chain.{gives-coincide}
 use Rattle.rules.specs.Board.{Panel, Board}
 use Rattle.rules.specs.Promises.{RunsOut}

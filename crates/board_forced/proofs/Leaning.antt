@@ -1,28 +1,29 @@
 -- The ways out of a forced run: what it leans on once its checks have passed, and what it answers and leaves.
 --     leans          what the run beneath the checks asks
---     refused, ran   the call refused, and the call that ran
+--     unrun, ran     the call refused, and the call that ran
 -- Assumes nothing.
 use Prim.Native.Nat.{ℕ, ◌*◌, ◌≤◌}
 use mathlib.Core.Path.{◌≡◌, refl, sym}
 use mathlib.Core.Bool.{true}
 use mathlib.Core.List.{[]}
 use native.Mathlib.Omega.{arith}
-use lib.ListN.{length}
 use borrow.Author.Tests.{leb-true}
 use Rattle.base.specs.Refusal.{refusal}
-use Rattle.base.proofs.Chain.{refusing, Passes, all_pass}
-use Rattle.base.proofs.Answered.{was-refused, was-done}
+use Rattle.base.proofs.Chain.{Passes, all_pass}
 use Rattle.rules.specs.Bounds.{max_budget, max_weight}
 use Rattle.rules.specs.Tests.{none_above, on_wall}
-use Rattle.rules.specs.Answers.{Answer, run_answer}
+use Rattle.std.specs.Prelude.{Option, Ok, Err}
+use Rattle.rules.specs.Answers.{checked}
+use Rattle.rules.specs.declared.Refusal.{Refusal}
+use Rattle.rules.proofs.Answered.{refused, done}
 use Rattle.rules.specs.Fit.{pieces_checks}
 use Rattle.rules.specs.Board.{Panel, Board}
-use Rattle.rules.specs.ForcedRun.{Run, run_out, run_checks, running, after_run}
+use Rattle.rules.specs.ForcedRun.{run_out, run_checks, running, after_run}
 use Rattle.rules.specs.Promises.{RunsOut}
 use Rattle.rules.specs.declared.World.{World}
 use Rattle.check_sizes.proofs.Sides.{none_above-entry, long}
 use Rattle.fit_windows.proofs.Accepted.{ready-from}
-use Rattle.board_run.specs.Running.{Going, Ends}
+use Rattle.board_run.specs.Running.{Going, end_of, Ends}
 use Rattle.rules.specs.declared.BoundingBox.{BoundingBox}
 use Rattle.rules.specs.declared.RanOut.{RanOut}
 
@@ -45,16 +46,12 @@ leans j count b place bounds budget e =
     )
 
 module _ (j : Panel) (count : ℕ) (b : Board) (place : World) (bounds : Option BoundingBox) (budget : ℕ) where
-  -- the answer by the number of the refusal
-  abbrev ending : ℕ → Answer RanOut
-  ending n = let s : Run = run_out j count bounds b place budget in run_answer n s.full s.queue s.taken (length s.lain)
-
-  pub refused : (n : ℕ) → refusing n ≡ true → n ≡ refusal (run_checks j count b place bounds budget) → RunsOut j count place bounds budget b (Refused n) b
+  pub unrun : {r : Refusal} → Err r ≡ checked (run_checks j count b place bounds budget) → RunsOut j count place bounds budget b (Err r) b
   unfolding running after_run
-  refused n t e = was-refused ending Refused (λ m. refl) (run_checks j count b place bounds budget) (run_out j count bounds b place budget).board b n t e
+  unrun e =
+      let s = run_out j count bounds b place budget in refused (run_checks j count b place bounds budget) (end_of s) s.board b e
 
-  pub ran : (a : Answer RanOut) (after : Board) → 0 ≡ refusal (run_checks j count b place bounds budget) → Ends j count place bounds budget b a after
-      → RunsOut j count place bounds budget b a after
+  pub ran : {a : RanOut} {after : Board} → 0 ≡ refusal (run_checks j count b place bounds budget) → Ends j count place bounds budget b a after
+      → RunsOut j count place bounds budget b (Ok a) after
   unfolding running after_run
-  ran a after e r =
-      was-done ending Refused (λ m. refl) (run_checks j count b place bounds budget) (run_out j count bounds b place budget).board b a after r.answered e r.leaves
+  ran e r = let s = run_out j count bounds b place budget in done (run_checks j count b place bounds budget) (end_of s) s.board b e r.answered r.leaves

@@ -82,7 +82,7 @@ pub fn forced_run(
     check_run(
         pieces, weights, counts, rows, cols, tiles, count, place, offset, bounds, budget,
     )?;
-    run_out(
+    Ok(run_out(
         pieces, weights, counts, rows, cols, tiles, count, place, offset, bounds, budget,
-    )
+    ))
 }
