@@ -22,21 +22,17 @@ fn bits(rt: &impl Print, x: f64) -> io::Result<()> {
 }
 
 fn end_of_row(rt: &impl Print, k: usize, cols: usize) -> io::Result<()> {
-    if 0 < cols {
-        if k % cols == 0 {
-            text(rt, b"\n")?;
-        }
+    if 0 < cols && k % cols == 0 {
+        text(rt, b"\n")?;
     }
     Ok(())
 }
 
 // A plane, so many cells a line.
 fn plane_of(rt: &impl Print, xs: &[f64], cols: usize) -> io::Result<()> {
-    let mut k = 0;
-    while k < xs.len() {
-        bits(rt, xs[k])?;
-        k += 1;
-        end_of_row(rt, k, cols)?;
+    for (k, x) in xs.iter().enumerate() {
+        bits(rt, *x)?;
+        end_of_row(rt, k + 1, cols)?;
     }
     Ok(())
 }
@@ -48,9 +44,9 @@ fn line(rt: &impl Print, xs: &[f64]) -> io::Result<()> {
 fn answered(rt: &impl Print, answer: Result<(), Refusal>) -> io::Result<()> {
     match answer {
         Ok(()) => text(rt, b"done\n"),
-        Err(n) => {
+        Err(refusal) => {
             text(rt, b"refused ")?;
-            rt.print(n as u64)?;
+            rt.print(refusal as u64)?;
             text(rt, b"\n")
         }
     }
@@ -330,8 +326,8 @@ fn chequer_counts() -> [u32; 25] {
     let mut pieces = [0u32; 25];
     let mut weights = [0u32; 25];
     let mut counts = [0u32; 25];
-    board_fresh::fresh(&mut pieces, &mut weights, &mut counts, 5, 5, 2);
-    board::lay(
+    let _ = board_fresh::fresh(&mut pieces, &mut weights, &mut counts, 5, 5, 2);
+    let _ = board::lay(
         &mut pieces,
         &mut weights,
         &mut counts,
@@ -356,12 +352,12 @@ fn lay_score(rt: &impl Print, place: World, offset: Offset) -> io::Result<()> {
     plane_of(rt, &scores, 5)
 }
 
-fn lift_score(rt: &impl Print, spans: Spans) -> io::Result<()> {
+fn lift_score(rt: &impl Print, rows: Span, cols: Span) -> io::Result<()> {
     let counts = chequer_counts();
     let mut scores = [7.0f64; 25];
     answered(
         rt,
-        scores::aggregate_feasibility(&mut scores, &counts, 5, 5, 2, spans),
+        scores::aggregate_feasibility(&mut scores, &counts, 5, 5, 2, Spans { rows, cols }),
     )?;
     plane_of(rt, &scores, 5)
 }
@@ -375,9 +371,13 @@ fn row_by_row(rt: &impl Print) -> io::Result<()> {
         scores::update_feasibility(&mut scores, &counts, 3, 3, 6, World(1, 1), Offset(0, 0)),
     )?;
     plane_of(rt, &scores, 3)?;
+    let spans = Spans {
+        rows: Span(2, 3),
+        cols: Span(2, 3),
+    };
     answered(
         rt,
-        scores::aggregate_feasibility(&mut scores, &counts, 3, 3, 6, Span(2, 3), Span(2, 3)),
+        scores::aggregate_feasibility(&mut scores, &counts, 3, 3, 6, spans),
     )?;
     plane_of(rt, &scores, 3)
 }
@@ -408,21 +408,25 @@ fn both_scores(
     rows: usize,
     tiles: usize,
     place: World,
-    colspan: Span,
+    cols: Span,
 ) -> io::Result<()> {
     let none = Offset(0, 0);
+    let spans = Spans {
+        rows: Span(0, 0),
+        cols,
+    };
     answered(
         rt,
         scores::update_feasibility(scores, counts, rows, 3, tiles, place, none),
     )?;
     answered(
         rt,
-        scores::aggregate_feasibility(scores, counts, rows, 3, tiles, Span(0, 0), colspan),
+        scores::aggregate_feasibility(scores, counts, rows, 3, tiles, spans),
     )?;
     line(rt, scores)
 }
 
-fn check_scores(rt: &impl Print) -> io::Result<()> {
+fn scores_refused(rt: &impl Print) -> io::Result<()> {
     let here = World(0, 0);
     let all = Span(0, 3);
     let counts = [2u32, 1, 2];
@@ -476,5 +480,5 @@ fn main(rt: HostRuntime) -> io::Result<()> {
     products_refused(&rt)?;
     factors_refused(&rt)?;
     scoring(&rt)?;
-    check_scores(&rt)
+    scores_refused(&rt)
 }
