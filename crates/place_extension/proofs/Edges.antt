@@ -1,14 +1,14 @@
 -- The edges of a side in 64 bits, and bounds of the pads: a pad of an accepted call is small, and a box only takes from it.
 -- Assumes nothing.
 use Prim.Native.Nat.{ℕ, ◌+◌, ◌^◌, ◌<◌, ◌≤◌}
-use mathlib.Core.Path.{◌≡◌}
+use mathlib.Core.Path.{◌≡◌, ◌∙◌, ap}
 use native.Mathlib.Omega.{arith}
 use lib.IntN.{ℤ, pos, ◌+ℤ◌, ◌-ℤ◌}
 use lib.Signed.{mag}
 use mir.Syntax.{w32, w64}
-use mir.Val.{SFits}
+use mir.Val.{SFits, to_z, of_z}
 use Rattle.base.specs.Whole.{clip}
-use Rattle.base.proofs.Signs.{add-in, clip-low, Reads, counted, add_b, sub_b, added, subbed, sub_in}
+use Rattle.base.proofs.Signs.{add-in, clip-low, Reads, given, counted, sub_in}
 use Rattle.rules.specs.Bounds.{max_board_side, max_radius}
 use Rattle.rules.specs.Places.{first_of, last_of, pad_before, pad_after, boxed_before, boxed_after, pads_of, boxed_pads}
 use Rattle.rules.specs.declared.World.{World}
@@ -16,9 +16,8 @@ use Rattle.rules.specs.declared.Offset.{Offset}
 use Rattle.rules.specs.declared.BoundingBox.{BoundingBox}
 use Rattle.rules.specs.declared.Pads.{Pads}
 use Rattle.check_sizes.proofs.Sides.{board-rows, board-cols}
-use Rattle.places.proofs.Wide.{wide, widened}
+use Rattle.places.proofs.Wide.{same}
 use Rattle.places.proofs.Indices.{wall-low, offset-low}
-use Rattle.place_spans.proofs.Radius.{one-is}
 use Rattle.place_extension.specs.Given.{Reached, PadsIn, max_pad}
 
 pub zero_is : Reads w64 0 (pos 0) 1
@@ -30,33 +29,37 @@ side-is h = counted w64 (omega arith) tt
 pub pad-is : {pad : ℕ} → pad ≤ max_pad → Reads w64 pad (pos pad) 3000001
 pad-is h = counted w64 (omega arith) tt
 
--- the coordinates of the first and of the last cell of a side
-abbrev pub first_b : ℤ → ℕ
-first_b o = sub_b w64 0 (wide o)
-
-pub first-is : {o : ℤ} → SFits w32 o → Reads w64 (first_b o) (first_of o) (2 ^ 31 + 2)
+-- the coordinates of the first and of the last cell of a side, as a call answered them of an offset that was handed on
+first-low : (o : ℤ) → mag o < 2 ^ 31 → mag (first_of o) < 2 ^ 31 + 2
 unfolding first_of
-first-is f = subbed zero_is (widened f) tt
+first-low o h = sub_in {A = 1} {B = 2 ^ 31} (pos 0) o (omega arith) h
 
-abbrev pub last_b : ℕ → ℤ → ℕ
-last_b side o = sub_b w64 (add_b w64 (first_b o) side) 1
-
-pub last-is : {side : ℕ} {o : ℤ} → SFits w32 o → side ≤ max_board_side → Reads w64 (last_b side o) (last_of side o) (2 ^ 31 + 70)
+last-low : (side : ℕ) (o : ℤ) → side ≤ max_board_side → mag o < 2 ^ 31 → mag (last_of side o) < 2 ^ 31 + 70
 unfolding last_of
-last-is f h = subbed (added (first-is f) (side-is h) tt) one-is tt
+last-low side o k h =
+    sub_in {A = 2 ^ 31 + 67} {B = 2} (first_of o +ℤ pos side) (pos 1)
+    (add-in {A = 2 ^ 31 + 2} {B = 65} (first_of o) (pos side) (first-low o h) (omega arith))
+    (omega arith)
+
+pub first-is : {o r : ℤ} → SFits w32 o → r ≡ first_of (to_z w32 (of_z w32 o)) → Reads w64 (of_z w64 r) (first_of o) (2 ^ 31 + 2)
+first-is {o} f e = rw (e ∙ ap first_of (same {z = o} f.sfits)) (given w64 (first-low o f.sfits) tt)
+
+pub last-is : {side : ℕ} {o r : ℤ} → SFits w32 o → side ≤ max_board_side → r ≡ last_of side (to_z w32 (of_z w32 o))
+    → Reads w64 (of_z w64 r) (last_of side o) (2 ^ 31 + 70)
+last-is {side} {o} f h e = rw (e ∙ ap (last_of side) (same {z = o} f.sfits)) (given w64 (last-low side o h f.sfits) tt)
 
 -- the pads of one side
 module _ (o x : ℤ) (k : ℕ) (p : mag o < 1000001) (q : mag x < 1000001) (h : k ≤ max_radius) where
-  first-low : mag (first_of o) < 1000003
+  edge-low : mag (first_of o) < 1000003
   unfolding first_of
-  first-low = sub_in {A = 1} {B = 1000001} (pos 0) o (omega arith) p
+  edge-low = sub_in {A = 1} {B = 1000001} (pos 0) o (omega arith) p
 
   pub before-low : pad_before o x k ≤ max_pad
   unfolding pad_before
   before-low =
       let near : mag (x -ℤ pos k) < 1000066 = sub_in {A = 1000001} {B = 64} x (pos k) q (omega arith) in
       let low : clip (first_of o -ℤ (x -ℤ pos k)) < 2000070
-      = clip-low (first_of o -ℤ (x -ℤ pos k)) (sub_in {A = 1000003} {B = 1000066} (first_of o) (x -ℤ pos k) first-low near)
+      = clip-low (first_of o -ℤ (x -ℤ pos k)) (sub_in {A = 1000003} {B = 1000066} (first_of o) (x -ℤ pos k) edge-low near)
       in
       omega arith
 
@@ -64,7 +67,7 @@ module _ (o x : ℤ) (k : ℕ) (p : mag o < 1000001) (q : mag x < 1000001) (h : 
   unfolding pad_after last_of
   after-low side g =
       let near : mag (x +ℤ pos k) < 1000065 = add-in {A = 1000001} {B = 64} x (pos k) q (omega arith) in
-      let past : mag (first_of o +ℤ pos side) < 1000068 = add-in {A = 1000003} {B = 65} (first_of o) (pos side) first-low (omega arith) in
+      let past : mag (first_of o +ℤ pos side) < 1000068 = add-in {A = 1000003} {B = 65} (first_of o) (pos side) edge-low (omega arith) in
       let last : mag ((first_of o +ℤ pos side) -ℤ pos 1) < 1000071
       = sub_in {A = 1000068} {B = 2} (first_of o +ℤ pos side) (pos 1) past (omega arith)
       in

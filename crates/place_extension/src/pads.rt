@@ -2,18 +2,32 @@
 ghost use Rattle.std.specs.Prelude.{◌≡◌, true, ◌≤◌};
 ghost use Rattle.rules.specs.Bounds.{max_board_side, max_radius};
 ghost use Rattle.rules.specs.Tests.{board_sides, offset_fits};
-ghost use Rattle.rules.specs.Places.{pad_before, pad_after, boxed_before, boxed_after, pads_of, boxed_pads, extension_by};
+ghost use Rattle.rules.specs.Places.{first_of, last_of, pad_before, pad_after, boxed_before, boxed_after, pads_of, boxed_pads, extension_by};
 ghost use Rattle.place_extension.specs.Given.{Reached, PadsIn, max_pad};
 
 use rules::{BoundingBox, ExtensionInfo, Offset, Pads, World};
+
+// The coordinate of the first cell of a side.
+fn first_of(offset: i32) -> i64
+    ensures { result ≡ first_of offset }
+{
+    -(offset as i64)
+}
+
+// The coordinate of the last cell.
+fn last_of(side: usize, offset: i32) -> i64
+    requires { side ≤ max_board_side }
+    ensures { result ≡ last_of side offset }
+{
+    first_of(offset) + side as i64 - 1
+}
 
 // How far coordinate-radius lies before the first cell of a side, else 0.
 fn pad_before(coordinate: i32, offset: i32, radius: usize) -> usize
     requires { radius ≤ max_radius }
     ensures { result ≡ pad_before offset coordinate radius }
 {
-    let first = -(offset as i64);
-    places::clip_to(first - (coordinate as i64 - radius as i64))
+    places::clip_to(first_of(offset) - (coordinate as i64 - radius as i64))
 }
 
 // How far coordinate+radius lies past the last cell of a side, else 0.
@@ -21,8 +35,7 @@ fn pad_after(side: usize, coordinate: i32, offset: i32, radius: usize) -> usize
     requires { (side ≤ max_board_side) × (radius ≤ max_radius) }
     ensures { result ≡ pad_after side offset coordinate radius }
 {
-    let last = -(offset as i64) + side as i64 - 1;
-    places::clip_to(coordinate as i64 + radius as i64 - last)
+    places::clip_to(coordinate as i64 + radius as i64 - last_of(side, offset))
 }
 
 // The pad before a side, less what of it lies before the box.
@@ -30,8 +43,7 @@ fn boxed_before(least: i32, offset: i32, pad: usize) -> usize
     requires { pad ≤ max_pad }
     ensures { result ≡ boxed_before least offset pad }
 {
-    let first = -(offset as i64);
-    pad.saturating_sub(places::clip_to(least as i64 - (first - pad as i64)))
+    pad.saturating_sub(places::clip_to(least as i64 - (first_of(offset) - pad as i64)))
 }
 
 // The pad after a side, less what of it lies past the box.
@@ -39,8 +51,7 @@ fn boxed_after(most: i32, side: usize, offset: i32, pad: usize) -> usize
     requires { (side ≤ max_board_side) × (pad ≤ max_pad) }
     ensures { result ≡ boxed_after most side offset pad }
 {
-    let last = -(offset as i64) + side as i64 - 1;
-    pad.saturating_sub(places::clip_to(last + pad as i64 - most as i64))
+    pad.saturating_sub(places::clip_to(last_of(side, offset) + pad as i64 - most as i64))
 }
 
 pub fn pads_of(rows: usize, cols: usize, offset: Offset, place: World, radius: usize) -> Pads
