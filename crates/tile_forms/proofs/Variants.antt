@@ -5,7 +5,6 @@ use Prim.Native.Nat.{ℕ, zero, suc, ◌+◌, ◌-◌, ◌*◌, ◌/◌, ◌%◌
 use mathlib.Core.Path.{◌≡◌, sym, ◌∙◌, ap}
 use mathlib.Core.Bool.{Bool, true, false}
 use mathlib.Core.List.{List}
-use native.Mathlib.Nat.{mod-lt, lt_of_lt_of_le}
 use native.Mathlib.Omega.{arith}
 use borrow.Author.Tests.{lt-ltb, le-ltb}
 use lib.Dec.{ltb}
@@ -47,12 +46,6 @@ turns-le false = omega arith
 pub turns-pos : (rotations : Bool) → 0 < turns rotations
 turns-pos true = omega arith
 turns-pos false = omega arith
-
-pub forms-twice : (rotations reflections : Bool) (n : ℕ) → reflections ≡ true → n ≡ turns rotations → n + n ≡ forms rotations reflections
-forms-twice rotations reflections n e h = rw (e, h)
-
-pub forms-once : (rotations reflections : Bool) (n : ℕ) → reflections ≡ false → n ≡ turns rotations → n ≡ forms rotations reflections
-forms-once rotations reflections n e h = rw (e, h)
 
 pub forms-le : (rotations reflections : Bool) → forms rotations reflections ≤ turns rotations + turns rotations
 forms-le rotations true = omega arith
@@ -116,8 +109,3 @@ variants-le p q r = mul-le (windows-le p q) r
 pub variants-is : (rows cols a b c : ℕ) (rotations reflections : Bool) → a ≡ starts_along rows → b ≡ starts_along cols → c ≡ forms rotations reflections
     → a * b * c ≡ variants rows cols rotations reflections
 variants-is rows cols a b c rotations reflections p q r = cc
-
--- a variant's form and window are in range
-pub form-lt : (rotations reflections : Bool) (v n : ℕ) → n ≡ forms rotations reflections → v % n < turns rotations + turns rotations
-form-lt rotations reflections v n e =
-    lt_of_lt_of_le (mod-lt v (rw e (forms-pos rotations reflections))) (rw e (forms-le rotations reflections))

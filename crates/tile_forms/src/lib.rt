@@ -14,7 +14,11 @@ fn sample_cell(sample: &[u8], rows: usize, cols: usize, r: usize, c: usize) -> u
     requires { Sample sample.now rows cols }
     ensures { result ≡ sample_cell sample.now rows cols r c }
 {
-    if r < rows && c < cols { sample[r * cols + c] } else { 0 }
+    if r < rows && c < cols {
+        sample[r * cols + c]
+    } else {
+        0
+    }
 }
 
 // How many windows start along a side.
