@@ -2,6 +2,7 @@
 --     waits-inside    at every moment, each entry that waits is admitted by the box
 --     lain-inside     and each entry that was laid
 -- The place of the call may lie outside the box, and then it is not laid. Assumes nothing.
+use Rattle.std.specs.Prelude.{Option}
 use Prim.Native.Nat.{ℕ}
 use mathlib.Core.Path.{◌≡◌, sym, subst}
 use mathlib.Core.Bool.{true, ◌&&◌}

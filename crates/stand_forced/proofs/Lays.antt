@@ -8,6 +8,7 @@
 --     heavy-goes-on  on other boards a lay as a call may be refused where the run goes on: lent weights stand at the largest, and the second
 --                   lay meets CELL
 -- Assumes nothing.
+use Rattle.std.specs.Prelude.{Option, None}
 use Prim.Native.Nat.{ℕ, ◌+◌, ◌≤◌}
 use mathlib.Core.Path.{◌≡◌, refl, sym, ◌∙◌, ap, subst}
 use mathlib.Core.Bool.{Bool, true, false}
@@ -226,9 +227,9 @@ abbrev cell_at : ℕ → ForcedPosition
 cell_at k = record { coordinates = record { 0 = pos 0; 1 = pos k }; colour = 1 }
 
 -- the run lays all three; as calls, the first of its lays is accepted, and the second refused
-pub heavy-goes-on : (refusal (run_checks row 1 heavy corner Unbounded 3) ≡ 0)
-    × ((run_out row 1 Unbounded heavy corner 3).lain ≡ cell_at 1 ∷ cell_at 0 ∷ cell_at 2 ∷ [])
-    × ((after_run row 1 heavy corner Unbounded 3).pieces ≡ 2 ∷ 2 ∷ 2 ∷ [])
+pub heavy-goes-on : (refusal (run_checks row 1 heavy corner None 3) ≡ 0)
+    × ((run_out row 1 None heavy corner 3).lain ≡ cell_at 1 ∷ cell_at 0 ∷ cell_at 2 ∷ [])
+    × ((after_run row 1 heavy corner None 3).pieces ≡ 2 ∷ 2 ∷ 2 ∷ [])
     × (refusal (lay_checks row 1 heavy (cell_at 1).coordinates 1) ≡ 0)
     × (refusal (lay_checks row 1 (after_lay row 1 heavy (cell_at 1).coordinates 1) (cell_at 0).coordinates 1) ≡ 4)
 unfolding fold refusal within within_z every some tab those board_sides has_length tile_number_fits whole_tiles colour_count none_above pieces_stored on_wall offset_fits on_board after_lay laid raised recounted left_after allows has_fitting fits_tile agrees flat entry_or_past cell_of colours_of forces_one is_forced forced_there forced_round neighbour admits bounds_fit same_place is_queued with_position with_positions still_forced queueing taking stepped begun run_out after_run

@@ -6,6 +6,7 @@
 --     never-spent   and a budget of that many is never spent; nor is one of nine times as many (nine-times), nor the largest (largest-budget)
 --     same-enough   two such budgets leave the same run
 -- All of accepted runs; a refused one answers its refusal. Assumes nothing.
+use Rattle.std.specs.Prelude.{Option, Ok}
 use Prim.Native.Nat.{ℕ, zero, suc, ◌+◌, ◌*◌, ◌<◌, ◌≤◌}
 use mathlib.Core.Path.{◌≡◌, refl, sym, ◌∙◌, ap, subst}
 use mathlib.Core.Bool.{Bool, true, false, not, ◌&&◌, ◌||◌}
@@ -25,7 +26,10 @@ use Rattle.base.proofs.Numbers.{lt-or-le, mul-le, within_low}
 use Rattle.rules.specs.Bounds.{max_board_side}
 use Rattle.rules.specs.Grid.{laid_on}
 use Rattle.rules.specs.Places.{same_place}
-use Rattle.rules.specs.Answers.{run_answer}
+use Rattle.rules.specs.Answers.{Answer, answered, end_by}
+use Rattle.rules.specs.declared.RanOut.{RanOut}
+use Rattle.rules.specs.declared.RunEnd.{RunEnd}
+use Rattle.rules.specs.declared.RunEnd.TheVariants as RunEnd·
 use Rattle.rules.specs.Forced.{listed_at, forced_there, forced_round, is_queued, with_positions}
 use Rattle.rules.specs.Board.{Panel, Board, shape_of, entry_in, laid}
 use Rattle.rules.specs.ForcedRun.{Run, forced_by, run_checks, taking, stepped, run_out, running}
@@ -300,13 +304,23 @@ module _ (j : Panel) (count : ℕ) (bounds : Option BoundingBox) (b : Board) (pl
       (ap (λ (s : Run). may_at s (entry_in j e.coordinates)) (steps_next j count bounds (at m) e rest f q) ∙ (takes m e rest q).gone))
       (λ out. out)
 
--- the answer `Spent` is given by an accepted run in which an entry waits
-spent-by : (n : ℕ) (full : Bool) (l : List ForcedPosition) (taken laid t u : ℕ) → run_answer n full l taken laid ≡ RunAnswer·.Spent t u
+-- the answer of a run that is spent, with so many taken and so many laid
+abbrev pub spent_with : ℕ → ℕ → Answer RanOut
+spent_with taken laid = Ok (record { end = RunEnd·.Spent; taken = taken; laid = laid })
+
+not-spent : {taken lain t u : ℕ} (end : RunEnd) → (end ≡ RunEnd·.Spent → ⊥) → Ok (record { end = end; taken = taken; laid = lain }) ≡ spent_with t u → ⊥
+not-spent {taken} {lain} {t} {u} end h a =
+    let e : ◌≡◌ {A = RanOut} (record { end = end; taken = taken; laid = lain }) (record { end = RunEnd·.Spent; taken = t; laid = u }) = cc in
+    h (ap (λ (r : RanOut). r.end) e)
+
+-- it is given by an accepted run in which an entry waits
+spent-by : (n : ℕ) (full : Bool) (l : List ForcedPosition) (taken laid t u : ℕ)
+    → answered n (record { end = end_by full l; taken = taken; laid = laid }) ≡ spent_with t u
     → (n ≡ 0) × (full ≡ false) × (e : ForcedPosition) × (rest : List ForcedPosition) × (l ≡ e ∷ rest)
-spent-by zero true l taken laid t u a = absurd (let z : ◌≡◌ {A = ℕ} 0 1 = cc in omega arith)
-spent-by zero false [] taken laid t u a = absurd (let z : ◌≡◌ {A = ℕ} 0 1 = cc in omega arith)
-spent-by zero false (e ∷ rest) taken laid t u a = (refl, refl, e, rest, refl)
-spent-by (suc n) full l taken laid t u a = absurd (let z : ◌≡◌ {A = ℕ} 0 1 = cc in omega arith)
+spent-by zero true l taken lain t u a = absurd (not-spent RunEnd·.Full (λ z. let x : ◌≡◌ {A = ℕ} 0 1 = cc in omega arith) a)
+spent-by zero false [] taken lain t u a = absurd (not-spent RunEnd·.Done (λ z. let x : ◌≡◌ {A = ℕ} 0 1 = cc in omega arith) a)
+spent-by zero false (e ∷ rest) taken lain t u a = (refl, refl, e, rest, refl)
+spent-by (suc n) full l taken lain t u a = absurd (let z : ◌≡◌ {A = ℕ} 0 1 = cc in omega arith)
 
 module _ (j : Panel) (count : ℕ) (bounds : Option BoundingBox) (b : Board) (place : World) where
   module _ (budget : ℕ) (accepted : refusal (run_checks j count b place bounds budget) ≡ 0) where
@@ -330,7 +344,7 @@ module _ (j : Panel) (count : ℕ) (bounds : Option BoundingBox) (b : Board) (pl
         stays j count bounds b place (bare_cells b.pieces) m still more ∙ sym (stays j count bounds b place (bare_cells b.pieces) n still enough)
 
   -- a budget that is spent is smaller than the bare cells
-  spent-low : (budget t l : ℕ) → running j count b place bounds budget ≡ RunAnswer·.Spent t l → (budget < bare_cells b.pieces) × Entered j count b.pieces
+  spent-low : (budget t l : ℕ) → running j count b place bounds budget ≡ spent_with t l → (budget < bare_cells b.pieces) × Entered j count b.pieces
   unfolding running
   spent-low budget t l spent =
       let s : Run = run_out j count bounds b place budget in
@@ -339,14 +353,14 @@ module _ (j : Panel) (count : ℕ) (bounds : Option BoundingBox) (b : Board) (pl
       (omega (arith, waits-low j count bounds b place accepted budget h.4, all-taken j count bounds b place budget h.1 h.4), accepted)
 
   -- as many entries as there are bare cells are never spent
-  pub never-spent : (budget t l : ℕ) → bare_cells b.pieces ≤ budget → running j count b place bounds budget ≡ RunAnswer·.Spent t l → ⊥
+  pub never-spent : (budget t l : ℕ) → bare_cells b.pieces ≤ budget → running j count b place bounds budget ≡ spent_with t l → ⊥
   never-spent budget t l enough spent = omega (arith, (spent-low budget t l spent).0)
 
   -- "With a budget of at least nine times the bare cells, the end is never spent"
-  pub nine-times : (budget t l : ℕ) → 9 * bare_cells b.pieces ≤ budget → running j count b place bounds budget ≡ RunAnswer·.Spent t l → ⊥
+  pub nine-times : (budget t l : ℕ) → 9 * bare_cells b.pieces ≤ budget → running j count b place bounds budget ≡ spent_with t l → ⊥
   nine-times budget t l enough = never-spent budget t l (omega arith)
 
-  pub largest-budget : (t l : ℕ) → running j count b place bounds 4096 ≡ RunAnswer·.Spent t l → ⊥
+  pub largest-budget : (t l : ℕ) → running j count b place bounds 4096 ≡ spent_with t l → ⊥
   unfolding bare_cells
   largest-budget t l spent =
       let h = spent-low 4096 t l spent in

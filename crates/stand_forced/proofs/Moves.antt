@@ -12,6 +12,7 @@
 --     forced-never, flat-forced-never    the same of a piece that a forced run laid: that run is replaced by its other lays
 --     only-acts, only-run    where no forced run is made, all this is demand 3 as it was
 -- Move by move, on the plans of demand 3; all else from its theorems. Assumes nothing.
+use Rattle.std.specs.Prelude.{Option, None}
 use Prim.Native.Nat.{ℕ, zero, suc, ◌≤◌}
 use mathlib.Core.Path.{◌≡◌, refl, sym, ◌∙◌, ap, subst}
 use mathlib.Core.List.{List, [], ◌∷◌, ◌++◌, map, map-append, append_assoc, append-nil}
@@ -57,15 +58,15 @@ abbrev pair : Panel
 pair = panel 1 2 (replicate 9 1 ++ replicate 9 2) (record { 0 = pos 0; 1 = pos 0 })
 
 -- a forced run beside a piece counts as the lay that it makes; one that is refused, for it names 31 colours, counts as none
-pub counts-so : (acts_of (start pair) (act (call (lay 2 corner 1)) ∷ forced 2 corner Unbounded 1 ∷ [])
+pub counts-so : (acts_of (start pair) (act (call (lay 2 corner 1)) ∷ forced 2 corner None 1 ∷ [])
     ≡ call (lay 2 corner 1) ∷ call (lay 2 (record { 0 = pos 0; 1 = pos 1 }) 1) ∷ [])
-    × (acts_of (start pair) (act (call (lay 2 corner 1)) ∷ forced 31 corner Unbounded 1 ∷ []) ≡ call (lay 2 corner 1) ∷ [])
+    × (acts_of (start pair) (act (call (lay 2 corner 1)) ∷ forced 31 corner None 1 ∷ []) ≡ call (lay 2 corner 1) ∷ [])
 unfolding acts_of lays_of fold refusal within within_z every some tab those fresh_board board_sides has_length tile_number_fits whole_tiles colour_count none_above pieces_stored on_wall offset_fits on_board after_lay laid raised recounted fit_count left_after allows has_fitting fits_tile agrees flat entry_or_past cell_of colours_of forces_one is_forced forced_there forced_round neighbour admits bounds_fit is_queued with_position with_positions still_forced queueing taking stepped begun run_out after_run
 counts-so = (refl, refl)
 
 -- a piece laid, the forced run, the piece lifted: its neighbour stays. The forced run alone lays nothing
-pub can-stay : ((played (start pair) (act (call (lay 2 corner 1)) ∷ forced 2 corner Unbounded 1 ∷ act (call (lift 2 corner)) ∷ [])).board.pieces ≡ 1 ∷ 2 ∷ [])
-    × ((played (start pair) (forced 2 corner Unbounded 1 ∷ [])).board.pieces ≡ 1 ∷ 1 ∷ [])
+pub can-stay : ((played (start pair) (act (call (lay 2 corner 1)) ∷ forced 2 corner None 1 ∷ act (call (lift 2 corner)) ∷ [])).board.pieces ≡ 1 ∷ 2 ∷ [])
+    × ((played (start pair) (forced 2 corner None 1 ∷ [])).board.pieces ≡ 1 ∷ 1 ∷ [])
 unfolding played fold refusal within within_z every some tab those fresh_board board_sides has_length tile_number_fits whole_tiles colour_count none_above pieces_stored on_wall offset_fits on_board after_lay after_lift laid lifted raised recounted fit_count left_after allows has_fitting fits_tile agrees flat entry_or_past cell_of colours_of forces_one is_forced forced_there forced_round neighbour admits bounds_fit is_queued with_position with_positions still_forced queueing taking stepped begun run_out after_run
 can-stay = (refl, refl)
 

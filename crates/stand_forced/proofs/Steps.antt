@@ -4,6 +4,7 @@
 --     taken-low, laid-low    no more entries are taken than the budget has, and no more are laid than taken
 --     all-taken  while an entry waits, each step took one
 -- After a lay the queue is the rest, or the rest with the forced neighbours: a fact is shown of both at once (`After`). Assumes nothing.
+use Rattle.std.specs.Prelude.{Option}
 use Prim.Native.Nat.{ℕ, zero, suc, ◌<◌, ◌≤◌}
 use mathlib.Core.Path.{◌≡◌, refl, sym, ◌∙◌, subst}
 use mathlib.Core.Bool.{Bool, true, false}

@@ -4,6 +4,7 @@
 --     taken-waits          and so of the entry that is taken next
 --     still-is, drop-is    it is laid exactly if its cell lists its colour and no other, and dropped exactly if its cell lists nothing
 -- Asked are the panel's bounds, the number of the pieces and the colours that are named, which the call checks on entry. Assumes nothing.
+use Rattle.std.specs.Prelude.{Option}
 use Prim.Native.Nat.{ℕ, ◌+◌, ◌*◌}
 use mathlib.Core.Path.{◌≡◌, refl, sym, ◌∙◌, ap, subst}
 use mathlib.Core.Bool.{Bool, true, false, not, ◌&&◌, ◌||◌}

@@ -1,5 +1,6 @@
 -- Demand 3 with forced runs (document 02, request 2): "Demand 3 counts each lay made here as a lay." What lay, lift and widening do and say
 -- stands in the runs of demand 3; here a forced run is one more call in them.
+use Rattle.std.specs.Prelude.{Option}
 use Rattle.std.specs.Prelude.{ℕ, ◌≡◌, not, List, [], ◌∷◌, ◌++◌, map, length}
 use Rattle.base.specs.Counting.{tally}
 use Rattle.base.specs.Tables.{fold}
