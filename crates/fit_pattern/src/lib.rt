@@ -3,7 +3,7 @@
 // are many and are tried one after the other, so the test reads eight cells at once.
 #![tactic(auto)]
 
-ghost use Rattle.std.specs.Prelude.{◌≡◌, ◌+◌, ◌*◌, ◌<◌, ◌≤◌, eqb, length};
+ghost use Rattle.std.specs.Prelude.{◌≡◌, ℕ, ◌+◌, ◌*◌, ◌<◌, ◌≤◌, eqb, length};
 ghost use Rattle.base.specs.Counting.{every};
 ghost use Rattle.base.specs.Tables.{tab};
 ghost use Rattle.rules.specs.Grid.{flat, cell_at, entry_of, entry_or_past, colour_on};
@@ -33,6 +33,18 @@ fn colour_at(pieces: &[u32], rows: usize, cols: usize, r: usize, c: usize) -> u8
     (pieces[r * cols + c] - rules::BARE_PIECE) as u8
 }
 
+// The colours of so many cells, each by its number.
+fn colours_of<const N: usize, F: Fn(usize) -> u8>(colour: F) -> [u8; N]
+    requires { (i : ℕ) → i < N → F.pre colour i }
+    ensures { (f : ℕ → ℕ) → ((i r : ℕ) → i < N → F.post colour i r → r ≡ f i) → result ≡ tab N f }
+{
+    let mut cells = [0u8; N];
+    for (i, cell) in cells.iter_mut().enumerate() {
+        *cell = colour(i);
+    }
+    cells
+}
+
 // The nine colours of the region that starts at (row, col).
 pub fn region_at(
     pieces: &[u32],
@@ -45,11 +57,7 @@ pub fn region_at(
     requires cell_on { CellOn rows cols row col }
     ensures { result ≡ tab 9 (pattern (flat rows cols) pieces.now (entry_of cols (cell_at row col))) }
 {
-    let mut region = [0u8; rules::TILE_CELLS];
-    for (i, cell) in region.iter_mut().enumerate() {
-        *cell = colour_at(pieces, rows, cols, row + i / 3, col + i % 3);
-    }
-    region
+    colours_of(|i| colour_at(pieces, rows, cols, row + i / 3, col + i % 3))
 }
 
 // The colour on the cell two up and two left of (r, c); 0 where it is bare or past any edge.
@@ -78,17 +86,15 @@ pub fn patch_at(
     requires cell_on { CellOn rows cols row col }
     ensures { result ≡ tab 25 (patch_round rows cols pieces.now (cell_at row col)) }
 {
-    let mut patch = [0u8; PATCH_CELLS];
-    for (j, cell) in patch.iter_mut().enumerate() {
-        *cell = colour_back(
+    colours_of(|j| {
+        colour_back(
             pieces,
             rows,
             cols,
             row + j / PATCH_SIDE,
             col + j % PATCH_SIDE,
-        );
-    }
-    patch
+        )
+    })
 }
 
 // Where the window that has the cell at place q starts in the patch.
