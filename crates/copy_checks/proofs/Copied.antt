@@ -1,4 +1,4 @@
--- The copy, over any kind of entry, by base's loops over a region: the two calls differ in no more than names.
+-- The copy, over any kind of entry, by base's loops over a region.
 --     laid-start, laid-turn, laid_done     the loop over the rows: before the first; one row; past the last
 --     next_row     where row i is read and where it is laid
 --     laid-copied     rows laid in a plane that holds the fill alone make the copy

@@ -5,15 +5,14 @@ use lib.Ieee.{nan}
 use Rattle.base.proofs.Chain.{chain}
 use Rattle.rules.specs.Floats.{one64}
 use Rattle.rules.specs.Tests.{has_length}
-use Rattle.rules.proofs.Answered.{answers, handed_to, refused, done}
+use Rattle.rules.proofs.Answered.{answers, handed_to, caught, stopped, refused, done}
 use Rattle.copies.proofs.Calls.{sides-passed, still-sized, rows-copied}
 use Rattle.copies.proofs.extend_array_2d_f64.Goals as goal
 
 pub returns-in_err-check_copy : goal.returns-in_err-check_copy
 unfolding has_length
 returns-in_err-check_copy c =
-    let no = refused _ tt _ _ (search (chain, answers, c.in_err-check_copy.was) depth 20 fits 5000) in
-    record { answered = handed_to c.from_residual.ensures no.answered; leaves = no.leaves }
+    rw (handed_to c.from_residual.ensures refl) (refused _ _ _ _ (stopped _ _ (caught _ _ c.check_copy.ensures c.in_err-check_copy.was)))
 
 pub returns-then-not-all_numbers : goal.returns-then-not-all_numbers
 unfolding has_length
