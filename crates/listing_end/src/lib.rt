@@ -45,11 +45,11 @@ fn put_planes(
 }
 
 // `refused N`, on a line of its own.
-pub fn put_refused(out: &mut [u8], at: usize, refusal: Refusal) -> usize
-    ensures { Prints (refused_line (number refusal)) at (before out) result (after out) }
+pub fn put_refused(out: &mut [u8], at: usize, n: u8) -> usize
+    ensures { Prints (refused_line n) at (before out) result (after out) }
 {
     let next = listing_lines::put_text(out, at, b"refused ");
-    listing_lines::put_number_line(out, next, u32::from(u8::from(refusal)))
+    listing_lines::put_number_line(out, next, u32::from(n))
 }
 
 fn put_dead_end(out: &mut [u8], at: usize, cell: Cell) -> usize
@@ -70,7 +70,7 @@ fn put_scan(out: &mut [u8], at: usize, found: Result<Option<Cell>, Refusal>) -> 
     match found {
         Ok(Some(cell)) => put_dead_end(out, at, cell),
         Ok(None) => listing_lines::put_text(out, at, b"dead end none\n"),
-        Err(refusal) => put_refused(out, at, refusal),
+        Err(refusal) => put_refused(out, at, u8::from(refusal)),
     }
 }
 

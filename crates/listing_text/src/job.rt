@@ -101,7 +101,7 @@ fn list_sample(out: &mut [u8], sample: &mut [u8], numbers: &[u32], setup: Setup)
     let from = setup.sample.rows * setup.sample.cols + 7;
     match extracted {
         Ok(n) => run_on_planes(out, &store[..n * rules::TILE_CELLS], setup, numbers, from),
-        Err(refusal) => put_refused(out, 0, refusal),
+        Err(refusal) => put_refused(out, 0, u8::from(refusal)),
     }
 }
 

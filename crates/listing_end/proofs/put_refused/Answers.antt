@@ -5,4 +5,4 @@ use Rattle.listing_end.proofs.put_refused.Goals as goal
 
 pub returns : goal.returns
 unfolding refused_line
-returns c = rw (← c.from.ensures, ← c.from-2.ensures) (writes_then c.put_text-next.ensures c.put_number_line.ensures)
+returns c = rw (← c.from.ensures) (writes_then c.put_text-next.ensures c.put_number_line.ensures)

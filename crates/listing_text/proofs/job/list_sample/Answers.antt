@@ -28,4 +28,4 @@ pub returns-in-Ok : goal.returns-in-Ok
 returns-in-Ok c = job-done _ _ c.requires.0 _ _ _ _ (c.copy_cells.ensures ∙ ap (clipped _) c.requires.1) (length-replicate {A = ℕ} 14112 0) c.extract_tiles-extracted.ensures _ c.in-Ok.is c.run_on_planes.ensures
 
 pub returns-in-Err : goal.returns-in-Err
-returns-in-Err c = writes_as (job-refused _ _ c.requires.0 _ _ _ _ (c.copy_cells.ensures ∙ ap (clipped _) c.requires.1) (length-replicate {A = ℕ} 14112 0) c.extract_tiles-extracted.ensures _ c.in-Err.is) c.put_refused.ensures
+returns-in-Err c = writes_as (job-refused _ _ c.requires.0 _ _ _ _ (c.copy_cells.ensures ∙ ap (clipped _) c.requires.1) (length-replicate {A = ℕ} 14112 0) c.extract_tiles-extracted.ensures _ c.in-Err.is) (rw c.from.ensures at c.put_refused.ensures)
