@@ -10,9 +10,6 @@ use Rattle.fit.proofs.check_fraction.Goals as goal
 pub returns-then-not-board_sides : goal.returns-then-not-board_sides
 returns-then-not-board_sides c = search (chain, answers) depth 20 fits 5000
 
-pub cells_of-requires : goal.cells_of-requires
-cells_of-requires c = sym c.board_sides.ensures ∙ c.if-not-board_sides.false
-
 pub returns-then-not-has_length : goal.returns-then-not-has_length
 returns-then-not-has_length c = search (chain, answers, length-as) depth 20 fits 5000
 

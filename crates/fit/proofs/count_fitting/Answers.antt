@@ -1,10 +1,9 @@
 -- `fit::count_fitting` meets its contract: the checks of pieces and tiles, then of the cell, then the count. Assumes nothing.
-use mathlib.Core.Path.{sym, ◌∙◌}
+use mathlib.Core.Path.{sym}
 use Rattle.base.proofs.Chain.{chain}
 use Rattle.rules.specs.Fit.{region_count}
 use Rattle.rules.proofs.Answered.{answers, handed_to, passed}
 use Rattle.fit_windows.proofs.Accepted.{accepted-ready}
-use Rattle.fit.proofs.Accepted.{grid-on}
 use Rattle.fit.proofs.count_fitting.Goals as goal
 
 pub returns-in_err-check_pieces : goal.returns-in_err-check_pieces
@@ -15,13 +14,8 @@ pub returns-then-not-on_grid : goal.returns-then-not-on_grid
 unfolding region_count
 returns-then-not-on_grid c = search (chain, answers, passed _ _ c.check_pieces.ensures c.in_ok-check_pieces.was) depth 20 fits 5000
 
-pub fit_count_at-requires : goal.fit_count_at-requires
-fit_count_at-requires c =
-    let on = grid-on _ _ _ (sym c.on_grid.ensures ∙ c.if-not-on_grid.false) in
-    record {
-      countable = (accepted-ready _ _ _ _ _ (sym (passed _ _ c.check_pieces.ensures c.in_ok-check_pieces.was))).tried;
-      cell_on = on;
-    }
+pub fit_count_at-requires-clause-countable : goal.fit_count_at-requires-clause-countable
+fit_count_at-requires-clause-countable c = (accepted-ready _ _ _ _ _ (sym (passed _ _ c.check_pieces.ensures c.in_ok-check_pieces.was))).tried
 
 pub returns : goal.returns
 unfolding region_count
