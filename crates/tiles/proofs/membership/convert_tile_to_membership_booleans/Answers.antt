@@ -1,5 +1,4 @@
 -- `tiles::membership::convert_tile_to_membership_booleans` meets its contract: a refusal, or the set. Assumes nothing.
-use mathlib.Core.Path.{sym, ◌∙◌}
 use Rattle.base.proofs.Chain.{chain}
 use Rattle.rules.specs.Tiles.{membership}
 use Rattle.rules.proofs.Answered.{answers}
@@ -13,10 +12,6 @@ returns-then-not-colour_count c = search (chain, answers) depth 20 fits 5000
 pub returns-then-not-no_byte_above : goal.returns-then-not-no_byte_above
 unfolding membership
 returns-then-not-no_byte_above c = search (chain, answers) depth 20 fits 5000
-
-pub colours_of-requires : goal.colours_of-requires
-colours_of-requires c =
-    (sym c.colour_count.ensures ∙ c.if-not-colour_count.false, sym c.no_byte_above.ensures ∙ c.if-not-no_byte_above.false)
 
 pub returns : goal.returns
 unfolding membership
