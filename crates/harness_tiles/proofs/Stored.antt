@@ -1,7 +1,7 @@
--- The laws of what is lent here: values stored one after another, a box from its numbers, a call whose number of tiles is passed on.
+-- The laws of what is lent here: values stored one after another, a box whose numbers are handed on.
 -- Assumes nothing.
 use Prim.Native.Nat.{ℕ, ◌+◌, ◌<◌, ◌≤◌}
-use mathlib.Core.Path.{◌≡◌, sym, ◌∙◌, ap, ap₂}
+use mathlib.Core.Path.{◌≡◌, sym, ◌∙◌, ap}
 use mathlib.Core.List.{List}
 use native.Mathlib.Numerals.{add-one}
 use lib.ListN.{length, get_or, drop, drop_of_length-le}
@@ -10,12 +10,8 @@ use lib.IntN.{ℤ}
 use mir.Syntax.{w32}
 use mir.Val.{SFits, to_z, of_z}
 use mir.Facts.{to_z-of_z}
-use Rattle.base.specs.Refusal.{Gives}
-use Rattle.rules.specs.declared.World.{World}
-use Rattle.rules.specs.declared.BoundingBox.{BoundingBox}
 use Rattle.boundary_slots.specs.Slots.{put}
-use Rattle.rules.specs.Answers.{Answer, number_of}
-use Rattle.harness_tiles.specs.Lent.{box_of, put_from, bytes_with}
+use Rattle.harness_tiles.specs.Lent.{box_of, put_from}
 
 -- one value stored, and what is left to store
 pub put-turn : {A : Type 0} (d : A) (l out after whole : List A) (k : ℕ) → k < length l → after ≡ put out k (get_or l k d) → put_from k (drop k l) out ≡ whole → put_from (k + 1) (drop (k + 1) l) after ≡ whole
@@ -31,20 +27,6 @@ pub put-done : {A : Type 0} (l out whole : List A) (k : ℕ) → length l ≤ k 
 unfolding put_from
 put-done {A = A} l out whole k h p = sym (ap (λ (r : List A). put_from k r out) (drop_of_length-le l h)) ∙ p
 
-abbrev box_from : World → World → BoundingBox
-box_from m n = record { min = m; max = n }
-
--- a box from its corners, and one whose numbers are handed on
-pub corners : {m n v w : World} → m ≡ v → n ≡ w → box_from m n ≡ box_from v w
-corners p q = ap₂ box_from p q
-
+-- a box whose numbers are handed on
 pub box-is : {a b c d : ℤ} → SFits w32 a → SFits w32 b → SFits w32 c → SFits w32 d → box_of (to_z w32 (of_z w32 a)) (to_z w32 (of_z w32 b)) (to_z w32 (of_z w32 c)) (to_z w32 (of_z w32 d)) ≡ box_of a b c d
 box-is fa fb fc fd = rw (to_z-of_z fa, to_z-of_z fb, to_z-of_z fc, to_z-of_z fd)
-
--- a call that writes bytes and answers a number, which is passed on
-pub bytes-told : (g : Answer ℕ → List ℕ → List ℕ) {answer a : Answer ℕ} {left bytes l after : List ℕ} {r : ℕ} → Gives answer left a bytes → Gives (number_of a) (g a l) r after → Gives (number_of answer) (bytes_with left (g answer l)) r (bytes_with bytes after)
-bytes-told g {l = l} e h =
-    record {
-      answered = h.answered ∙ ap number_of e.answered;
-      leaves = ap₂ bytes_with e.leaves (h.leaves ∙ ap (λ (x : Answer ℕ). g x l) e.answered);
-    }
