@@ -4,6 +4,7 @@ use Prim.Native.Nat.{ℕ}
 use mathlib.Core.List.{List}
 use lib.IntN.{ℤ}
 use lib.Ieee.{Float}
+use Rattle.std.specs.Prelude.{Option}
 use Rattle.rules.specs.Board.{Board}
 use Rattle.rules.specs.declared.Pads.{Pads}
 use Rattle.boundary.proofs.Back.{Decides, gives-decides, numbered-decides}

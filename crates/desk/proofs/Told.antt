@@ -16,7 +16,7 @@ use Rattle.rules.specs.declared.BoundingBox.{BoundingBox}
 use Rattle.rules.specs.declared.RanOut.{RanOut}
 use Rattle.boundary_slots.specs.Slots.{world, offset_by, offset_stored}
 use Rattle.boundary.specs.Boundary.{run_stored, told_left, Tells}
-use Rattle.desk.specs.Desk.{Beside, beside, DeskRuns, DeskWidens}
+use Rattle.desk.specs.Desk.{beside, DeskRuns, DeskWidens}
 
 -- f is `told_left` of what is stored
 told-beside : {A B : Type 0} (f : Answer A → List B → List B) {answer a : Answer A} {planes left : Board} {out after : List B} {r : ℕ}
