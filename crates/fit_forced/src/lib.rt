@@ -38,6 +38,7 @@ fn neighbour_at(place: World, d: usize) -> World
 }
 
 // Not outside the box, if one is given.
+#[tactic(auto, unfolding(rules::specs::Forced::admits))]
 fn admitted(bounds: Option<BoundingBox>, place: World) -> bool
     ensures { result ≡ admits bounds place }
 {
@@ -48,6 +49,7 @@ fn admitted(bounds: Option<BoundingBox>, place: World) -> bool
 }
 
 // The corners of the box, if one is given, are on the wall.
+#[tactic(auto, unfolding(rules::specs::Forced::bounds_fit))]
 pub fn bounds_fit(bounds: Option<BoundingBox>) -> bool
     ensures { result ≡ bounds_fit bounds }
 {

@@ -1,6 +1,5 @@
 -- `fit_forced::forced_colour` meets its contract: what each test leaves of the definition. Assumes nothing.
 use mathlib.Core.Path.{sym, ◌∙◌}
-use mathlib.Core.Path.{◌∙◌}
 use Rattle.places.proofs.Indices.{row_below, col-below}
 use Rattle.fit_forced.proofs.Alone.{not-admitted, off-board, on-board}
 use Rattle.fit_forced.proofs.forced_colour.Goals as goal
@@ -11,14 +10,11 @@ returns-then-not-admitted c = not-admitted _ _ _ _ _ _ _ _ _ (sym c.admitted.ens
 pub returns-then-not-on_board : goal.returns-then-not-on_board
 returns-then-not-on_board c = off-board _ _ _ _ _ _ _ _ _ (sym c.on_board.ensures ∙ c.if-not-on_board.true)
 
-pub only_colour_at-requires : goal.only_colour_at-requires
-only_colour_at-requires c =
+pub only_colour_at-requires-clause-cell_on : goal.only_colour_at-requires-clause-cell_on
+only_colour_at-requires-clause-cell_on c =
     let h = sym c.on_board.ensures ∙ c.if-not-on_board.false in
     let e = c.cell_of-cell.ensures in
-    record {
-      ready = c.requires;
-      cell_on = record { rowwise = rw e (row_below _ _ _ _ h); colwise = rw e (col-below _ _ _ _ h) };
-    }
+    record { rowwise = rw e (row_below _ _ _ _ h); colwise = rw e (col-below _ _ _ _ h) }
 
 pub returns : goal.returns
 returns c =

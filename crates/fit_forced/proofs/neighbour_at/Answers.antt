@@ -19,21 +19,15 @@ both-on w e = let f = within_z min_coordinate max_coordinate in (and_left (f w.0
 both : {a b x y : ℤ} → a ≡ x → b ≡ y → ◌≡◌ {A = World} (record { 0 = a; 1 = b }) (record { 0 = x; 1 = y })
 both p q = rw (p, q)
 
-pub beside-requires : goal.beside-requires
-beside-requires c =
+pub beside-requires-clause-coordinate_value : goal.beside-requires-clause-coordinate_value
+beside-requires-clause-coordinate_value c =
     let w = c.args.place in
-    record {
-      coordinate_value = rw (same {z = w.0} (omega arith)) (both-on w c.requires.place_value).0;
-      step_bound = omega (arith, c.requires.d_bound);
-    }
+    rw (same {z = w.0} (omega arith)) (both-on w c.requires.place_value).0
 
-pub beside-requires-2 : goal.beside-requires-2
-beside-requires-2 c =
+pub beside-requires-2-clause-coordinate_value : goal.beside-requires-2-clause-coordinate_value
+beside-requires-2-clause-coordinate_value c =
     let w = c.args.place in
-    record {
-      coordinate_value = rw (same {z = w.1} (omega arith)) (both-on w c.requires.place_value).1;
-      step_bound = omega (arith, c.requires.d_bound);
-    }
+    rw (same {z = w.1} (omega arith)) (both-on w c.requires.place_value).1
 
 pub returns : goal.returns
 unfolding neighbour
