@@ -70,6 +70,7 @@ impl Change for Quotient {
     ghost laws = { quotient-laws };
 
     fn change_row(row: &mut [f64], factors: &[f64]) {
+        // By index: tried as a walk over pairs of cell and factor, in which the loop's invariant does not see the row; the proof grew long.
         for j in 0..row.len().min(factors.len()) {
             row[j] = divided(row[j], factors[j]);
         }

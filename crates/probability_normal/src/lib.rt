@@ -12,7 +12,7 @@ ghost use Rattle.probability_normal.specs.Fits.{PlaceFits};
 
 use rules::{Offset, World};
 
-// Written out: where one of the two is a NaN, f64::max may tell another.
+// Document 01 fixes float steps bit by bit. Written out, since f64::max tells another where one of the two is a NaN.
 fn larger(a: f64, b: f64) -> f64
     ensures { result ≡ larger a b }
 {
