@@ -9,18 +9,9 @@ use Rattle.tile_seen.proofs.has_tile.Goals as goal
 pub loop-last-init : goal.loop-last-init
 loop-last-init c = search-start _ _ _ _ c.requires.0 _ _ c.requires.1 c.requires.2 c.from-last.ensures
 
-pub same_tile-requires : goal.same_tile-requires
-same_tile-requires c = omega (arith, c.loop-last.invariant.low, c.loop-last-test.true)
-
 pub returns-then-same_tile : goal.returns-then-same_tile
 unfolding has_tile
 returns-then-same_tile c = some-stop _ (omega (arith, c.loop-last.invariant.low)) (sym c.same_tile.ensures ∙ c.if-same_tile.true)
-
-pub offset_bounds-nexts-n : goal.offset_bounds-nexts-n
-offset_bounds-nexts-n c = record { fits = omega (arith, c.loop-last.invariant.low, c.requires.0.few) }
-
-pub bounds-nexts-n : goal.bounds-nexts-n
-bounds-nexts-n c = omega (arith, c.loop-last.invariant.low, c.requires.0.few, c.loop-last-test.true)
 
 pub loop-last-smaller : goal.loop-last-smaller
 loop-last-smaller c = search-less _ _ _ _ c.requires.0 _ _ c.loop-last.invariant c.loop-last-test.true c.from-last-in-loop-last.ensures
