@@ -1,13 +1,14 @@
 -- Two results that meet the contract of a function for tests coincide: the number, and what the lent memory holds. One theorem a function.
 -- Assumes nothing.
 use Prim.Native.Nat.{ℕ}
+use Rattle.std.specs.Prelude.{Option}
 use mathlib.Core.Path.{◌≡◌}
 use mathlib.Core.List.{List}
 use lib.IntN.{ℤ}
 use denote.MutBor.{MutBor}
 use Rattle.base.proofs.Chain.{gives-coincide}
 use Rattle.rules.specs.Forced.{queue_empty, queue_length}
-use Rattle.boundary.specs.Boundary.{TellsVerdict, TellsCount}
+use Rattle.boundary.specs.Boundary.{value_stored, truth_stored, Tells}
 use Rattle.harness_forced.specs.Slices.{queue_from, PortForces, PortAdds, PortTakes, slices, taking}
 use Rattle.rules.specs.declared.World.{World}
 use Rattle.rules.specs.declared.Offset.{Offset}
@@ -16,11 +17,11 @@ use Rattle.boundary.proofs.Back.{lent, Decides, gives-decides}
 use Rattle.rules.specs.declared.BoundingBox.{BoundingBox}
 
 pub port-queue-is-empty-coincide : (coordinates : List ℤ) (colours : List ℕ) (len : ℕ) (out : List ℕ)
-    → Decides (TellsVerdict (queue_empty (queue_from coordinates colours len)) out)
+    → Decides (Tells truth_stored (queue_empty (queue_from coordinates colours len)) out)
 port-queue-is-empty-coincide coordinates colours len out = gives-decides _ _
 
 pub port-queue-len-coincide : (coordinates : List ℤ) (colours : List ℕ) (len : ℕ) (out : List ℕ)
-    → Decides (TellsCount (queue_length (queue_from coordinates colours len)) out)
+    → Decides (Tells value_stored (queue_length (queue_from coordinates colours len)) out)
 port-queue-len-coincide coordinates colours len out = gives-decides _ _
 
 -- the slices before the call, and as each of the two calls leaves them; a place, an offset, bounds and an added list of any value stand where

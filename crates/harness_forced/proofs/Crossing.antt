@@ -1,25 +1,24 @@
--- Laws of positions that cross as slices: an entry is made of its three elements, a loop that goes up an array of 0 entries makes the
--- table of the entries, and a loop that stores one entry after the other stores them all.
+-- Laws of positions that cross as slices: an entry is made of its three elements, and a loop that stores one entry after the other stores
+-- them all; an answer of a call on a queue is told by its definition.
 -- Assumes nothing.
-use Prim.Native.Nat.{ℕ, zero, suc, ◌+◌, ◌-◌, ◌*◌, ◌^◌, ◌<◌, ◌≤◌}
-use mathlib.Core.Path.{◌≡◌, refl, sym, ◌∙◌, ap, ap₂, subst}
-use mathlib.Core.List.{List, []}
+use Prim.Native.Nat.{ℕ, zero, suc, ◌+◌, ◌*◌, ◌^◌, ◌<◌, ◌≤◌}
+use mathlib.Core.Path.{◌≡◌, refl, ◌∙◌, ap, subst}
+use mathlib.Core.List.{List}
 use native.Mathlib.Numerals.{add-one}
 use native.Mathlib.Omega.{arith}
-use lib.ListN.{length, get_or, set, length-replicate, length-set}
+use lib.ListN.{length, get_or, length-set}
 use lib.IntN.{ℤ, pos}
 use lib.Signed.{mag}
 use mir.Syntax.{w32}
 use mir.Val.{to_z, of_z}
-use Rattle.base.specs.Refusal.{Gives}
-use Rattle.base.specs.Tables.{tab}
-use Rattle.base.proofs.Swept.{swept, swept_none, swept-turn, swept_all}
-use Rattle.rules.specs.Forced.{padded, no_position}
+use Rattle.rules.specs.Forced.{no_position}
 use Rattle.rules.specs.declared.ForcedPosition.{ForcedPosition}
-use Rattle.rules.specs.declared.ForcedPositions.{ForcedPositions}
 use Rattle.places.proofs.Wide.{same}
 use Rattle.boundary_slots.specs.Slots.{put, world}
-use Rattle.harness_forced.specs.Slices.{entry_at, slices, place_stored, places_stored, colours_stored, stored, found_left, positions_stored, Slices, taking}
+use Rattle.rules.specs.declared.Grown.{Grown}
+use Rattle.rules.specs.declared.Taken.{Taken}
+use Rattle.boundary.specs.Boundary.{Tells}
+use Rattle.harness_forced.specs.Slices.{Slices, Taking, grown_stored, next_stored, entry_at, slices, place_stored, places_stored, colours_stored, stored}
 
 -- ---- what goes in
 
@@ -33,42 +32,11 @@ pub entry-is : (cs : List ℤ) (ws : List ℕ) (i : ℕ) (z y : ℤ) {c : ℕ} �
 unfolding entry_at
 entry-is cs ws i z y f g p q r = made (same {z = z} f ∙ p) (same {z = y} g ∙ q) r
 
--- an array of room entries that are 0, and then as f says below k
-module _ (room : ℕ) (f : ℕ → ForcedPosition) where
-  unfoldable pub filled : ℕ → List ForcedPosition
-  filled k = swept no_position k f (padded room [])
-
-  long : length (padded room []) ≡ room
-  unfolding padded
-  long = length-replicate (room - 0) no_position ∙ omega arith
-
-  pub filled_none : padded room [] ≡ filled 0
-  unfolding filled
-  filled_none = swept_none no_position f (padded room [])
-
-  pub filled-turn : (es : List ForcedPosition) (k : ℕ) (e : ForcedPosition) → k < room → es ≡ filled k → e ≡ f k → set es k e ≡ filled (k + 1)
-  unfolding filled
-  filled-turn es k e h p q = swept-turn no_position es (padded room []) k f e (omega (arith, long)) p q
-
-  pub filled-all : (k : ℕ) → room ≤ k → filled k ≡ tab room f
-  unfolding filled
-  filled-all k h = swept_all no_position k f (padded room []) (omega (arith, long)) ∙ ap (λ (n : ℕ). tab n f) long
-
 -- ---- what comes back
 
 length-put : {A : Type 0} (l : List A) (i : ℕ) (v : A) → length (put l i v) ≡ length l
 unfolding put
 length-put l i v = length-set l i v
-
-pub place-stored : (e : ForcedPosition) (i : ℕ) (l m : List ℤ) {after : List ℤ} → mag e.coordinates.0 < 2 ^ 31 → mag e.coordinates.1 < 2 ^ 31
-    → m ≡ put l (2 * i) (to_z w32 (of_z w32 e.coordinates.0))
-    → after ≡ put m (2 * i + 1) (to_z w32 (of_z w32 e.coordinates.1))
-    → after ≡ place_stored e i l
-place-stored e i l m f g p q =
-    q
-    ∙ ap₂ (λ (x : List ℤ) (z : ℤ). put x (2 * i + 1) z)
-    (p ∙ ap (λ (z : ℤ). put l (2 * i) z) (same {z = e.coordinates.0} f))
-    (same {z = e.coordinates.1} g)
 
 -- how far a loop that stores entries has come: the first i of them
 pub record Storing (es : List ForcedPosition) (i : ℕ) (cs : List ℤ) (ws : List ℕ) (cs' : List ℤ) (ws' : List ℕ) : Type 0 where
@@ -113,21 +81,15 @@ module _ (es : List ForcedPosition) (cs : List ℤ) (ws : List ℕ) where
   unfolding stored
   all-stored room i n ls h k p r = let e : room ≡ i = omega arith in rw (e, p.places, p.colours, r)
 
--- a refused call stores nothing
-pub left_alone : {A B : Type 0} (f : A → ℕ) (g : A → B → B) {a : A} (b : A) (l : B) {r : ℕ} → a ≡ b → f b ≡ r → g b l ≡ l → Gives (f a) (g a l) r l
-left_alone f g b l {r = r} e z p = subst (λ x. Gives (f x) (g x l) r l) (sym e) (record { answered = sym z; leaves = sym p })
-
-pub forced-refused : (n : ℕ) (found : ForcedPositions) (s : Slices) → (n ≡ 0 → ⊥) → Gives n (found_left n found s) n s
-forced-refused zero found s h = absurd (h refl)
-forced-refused (suc n) found s h = record { answered = refl; leaves = refl }
-
-pub forced-found : (n : ℕ) (found : ForcedPositions) (s : Slices) {after : Slices} → n ≡ 0 → after ≡ positions_stored found s → Gives n (found_left n found s) 0 after
-forced-found zero found s e p = record { answered = refl; leaves = p }
-forced-found (suc n) found s e p = absurd (omega (arith, e))
-
-pub taking-is : {q r : Slices} {a b : List ℤ} {c d e f : List ℕ} → q ≡ r → a ≡ b → c ≡ d → e ≡ f → taking q a c e ≡ taking r b d f
-taking-is p q r s = rw (p, q, r, s)
-
 -- the same call of equal places, offsets and boxes
 pub alike : {W O B A : Type 0} (f : W → O → B → A) {w v : W} {o p : O} {b c : B} → w ≡ v → o ≡ p → b ≡ c → f w o b ≡ f v p c
 alike f e d g = rw (e, d, g)
+
+-- what is told of a queue's answer is told of the definition that it equals
+pub grown-on : {g h : Grown} (held after : Slices) (r : ℕ) → g ≡ h → Tells (grown_stored g.queue) g.answer held r after
+    → Tells (grown_stored h.queue) h.answer held r after
+grown-on held after r e t = subst (λ (x : Grown). Tells (grown_stored x.queue) x.answer held r after) e t
+
+pub taken-on : {g h : Taken} (held after : Taking) (r : ℕ) → g ≡ h → Tells (next_stored g.queue) g.next held r after
+    → Tells (next_stored h.queue) h.next held r after
+taken-on held after r e t = subst (λ (x : Taken). Tells (next_stored x.queue) x.next held r after) e t

@@ -1,9 +1,8 @@
 -- Queues and forced positions as slices: entry i has its row and column at 2i and 2i + 1 of the coordinates and its colour at i of the
 -- colours; the length is a slice of its own. An element that a slice does not have counts as 0, and nothing is stored past an end. The
 -- promises of functions that change such slices take them as they are lent, for what they hold before and after.
-use Rattle.std.specs.Prelude.{ℕ, zero, suc, ◌+◌, ◌*◌, List, get_or, ℤ, pos}
+use Rattle.std.specs.Prelude.{Option, Some, None, ℕ, zero, suc, ◌+◌, ◌*◌, List, get_or, ℤ, pos}
 use Rattle.base.specs.Tables.{tab}
-use Rattle.base.specs.Refusal.{unless_refused, Gives}
 use Rattle.rules.specs.Bounds.{queue_room, added_room}
 use Rattle.rules.specs.Forced.{no_position, forced_neighbours, grown_by, taken_from}
 use Rattle.rules.specs.Grid.{flat}
@@ -13,10 +12,8 @@ use Rattle.rules.specs.declared.Offset.{Offset}
 use Rattle.rules.specs.declared.ForcedPosition.{ForcedPosition}
 use Rattle.rules.specs.declared.ForcedPositions.{ForcedPositions}
 use Rattle.rules.specs.declared.ForcedPipeline.{ForcedPipeline}
-use Rattle.rules.specs.declared.Taken.{Taken}
-use Rattle.rules.specs.declared.Grown.{Grown}
 use Rattle.boundary_slots.specs.Slots.{put, world}
-use Rattle.boundary.specs.Boundary.{written_number}
+use Rattle.boundary.specs.Boundary.{Tells}
 use Rattle.rules.specs.Answers.{Answer}
 use Rattle.rules.specs.declared.BoundingBox.{BoundingBox}
 
@@ -78,17 +75,14 @@ abbrev pub positions_stored : ForcedPositions → Slices → Slices
 positions_stored p s = stored added_room p.entries p.len s
 
 -- adding: the queue as it is then; a refused call stores nothing
-abbrev pub added_left : Answer Unit → ForcedPipeline → Slices → Slices
-added_left Written·.Done q s = queue_stored q s
-added_left (Written·.Refused n) q s = s
-
-abbrev pub grown_left : Grown → Slices → Slices
-grown_left g s = added_left g.answer g.queue s
+abbrev pub grown_stored : ForcedPipeline → Unit {0} → Slices → Slices
+grown_stored q u s = queue_stored q s
 
 abbrev pub PortAdds : ForcedPositions → Lent (List ℤ) → Lent (List ℕ) → Lent (List ℕ) → ℕ → Type 0
 PortAdds added coordinates colours len r =
     let held = slices_before coordinates colours len in
-    Gives (written_number (grown_by (queue_in held) added).answer) (grown_left (grown_by (queue_in held) added) held) r (slices_after coordinates colours len)
+    let g = grown_by (queue_in held) added in
+    Tells (grown_stored g.queue) g.answer held r (slices_after coordinates colours len)
 
 -- taking: the queue as it is then, the place and the colour that were taken, and 1; or 0 where nothing waits
 pub record Taking : Type 0 where
@@ -100,27 +94,18 @@ pub record Taking : Type 0 where
 abbrev pub taking : Slices → List ℤ → List ℕ → List ℕ → Taking
 taking queue taken colour found = record { queue = queue; taken = taken; colour = colour; found = found }
 
-abbrev pub next_number : Answer (Option ForcedPosition) → ℕ
-next_number (Next·.Taken e) = 0
-next_number Next·.Nothing = 0
-next_number (Next·.Refused n) = n
-
-abbrev pub next_left : Answer (Option ForcedPosition) → ForcedPipeline → Taking → Taking
-next_left (Next·.Taken e) q t =
+abbrev pub next_stored : ForcedPipeline → Option ForcedPosition → Taking → Taking
+next_stored q (Some e) t =
     taking
     (queue_stored q t.queue)
     (place_stored e 0 t.taken)
     (put t.colour 0 e.colour)
     (put t.found 0 1)
-next_left Next·.Nothing q t = taking (queue_stored q t.queue) t.taken t.colour (put t.found 0 0)
-next_left (Next·.Refused n) q t = t
-
-abbrev pub taken_left : Taken → Taking → Taking
-taken_left k t = next_left k.next k.queue t
+next_stored q None t = taking (queue_stored q t.queue) t.taken t.colour (put t.found 0 0)
 
 abbrev pub TellsNext : Answer (Option ForcedPosition) → ForcedPipeline → Lent (List ℤ) → Lent (List ℕ) → Lent (List ℕ) → Lent (List ℤ) → Lent (List ℕ) → Lent (List ℕ) → ℕ → Type 0
 TellsNext next queue coordinates colours len taken colour found r =
-    Gives (next_number next) (next_left next queue (taking (slices_before coordinates colours len) (before taken) (before colour) (before found)))
+    Tells (next_stored queue) next (taking (slices_before coordinates colours len) (before taken) (before colour) (before found))
     r (taking (slices_after coordinates colours len) (after taken) (after colour) (after found))
 
 abbrev pub PortTakes : Lent (List ℤ) → Lent (List ℕ) → Lent (List ℕ) → Lent (List ℤ) → Lent (List ℕ) → Lent (List ℕ) → ℕ → Type 0
@@ -129,13 +114,7 @@ PortTakes coordinates colours len =
     TellsNext k.next k.queue coordinates colours len
 
 -- forced neighbours: the positions that were found; a refused call stores nothing
-abbrev pub found_left : ℕ → ForcedPositions → Slices → Slices
-found_left refused found s = unless_refused refused (positions_stored found s) s
-
-abbrev pub forced_left : Answer ForcedPositions → Slices → Slices
-forced_left a s = found_left a.refused a.found s
-
 abbrev pub PortForces : List ℕ → ℕ → ℕ → List ℕ → ℕ → World → Offset → Option BoundingBox → Lent (List ℤ) → Lent (List ℕ) → Lent (List ℕ) → ℕ → Type 0
 PortForces pieces rows cols tiles count place offset bounds coordinates colours len r =
-    let answer = forced_neighbours flat pieces rows cols tiles count place offset bounds in
-    Gives answer.refused (forced_left answer (slices_before coordinates colours len)) r (slices_after coordinates colours len)
+    Tells positions_stored (forced_neighbours flat pieces rows cols tiles count place offset bounds)
+    (slices_before coordinates colours len) r (slices_after coordinates colours len)

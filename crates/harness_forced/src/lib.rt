@@ -5,7 +5,7 @@
 ghost use Rattle.rules.specs.Forced.{queue_empty, queue_length};
 ghost use Rattle.rules.specs.Promises.{before, after};
 ghost use Rattle.boundary_slots.specs.Slots.{world, offset_by, bounds_from};
-ghost use Rattle.boundary.specs.Boundary.{TellsVerdict, TellsCount};
+ghost use Rattle.boundary.specs.Boundary.{value_stored, truth_stored, Tells};
 ghost use Rattle.harness_forced.specs.Slices.{queue_from, positions_from, PortForces, PortAdds, PortTakes};
 
 use boundary::judged;
@@ -37,16 +37,17 @@ pub fn port_forced(
     ensures { PortForces pieces.now rows cols tiles.now count (world row col) (offset_by down across)
         (bounds_from within (world minrow mincol) (world maxrow maxcol)) coordinates colours len result }
 {
-    let place = world_at(row, col);
-    let offset = offset_at(down, across);
-    let least = world_at(minrow, mincol);
-    let most = world_at(maxrow, maxcol);
-    let bounds = bounds_from(within, least, most);
     let answer = fit_forced::detect_forced_positions(
-        pieces, rows, cols, tiles, count, place, offset, bounds,
+        pieces,
+        rows,
+        cols,
+        tiles,
+        count,
+        world_at(row, col),
+        offset_at(down, across),
+        bounds_from(within, world_at(minrow, mincol), world_at(maxrow, maxcol)),
     );
-    let found = answer.found;
-    slices::forced_given(answer.refused, found, coordinates, colours, len)
+    slices::forced_given(answer, coordinates, colours, len)
 }
 
 pub fn port_queue_add(
@@ -63,9 +64,7 @@ pub fn port_queue_add(
     let queue = slices::queue_from(coordinates, colours, n);
     let added = slices::positions_from(addedcoordinates, addedcolours, addedlen);
     let grown = lent::add_positions(queue, added);
-    let answer = grown.answer;
-    let after = grown.queue;
-    slices::added_given(answer, after, coordinates, colours, len)
+    slices::added_given(grown.answer, &grown.queue, coordinates, colours, len)
 }
 
 pub fn port_queue_take(
@@ -81,23 +80,32 @@ pub fn port_queue_take(
     let n = slices::length_at(len);
     let queue = slices::queue_from(coordinates, colours, n);
     let answer = lent::take_next(queue);
-    let next = answer.next;
-    let left = answer.queue;
-    slices::taken_given(next, left, coordinates, colours, len, taken, colour, found)
+    slices::taken_given(
+        answer.next,
+        &answer.queue,
+        coordinates,
+        colours,
+        len,
+        taken,
+        colour,
+        found,
+    )
 }
 
 pub fn port_queue_is_empty(coordinates: &[i32], colours: &[u32], len: usize, out: &mut [u32]) -> u32
-    ensures { TellsVerdict (queue_empty (queue_from coordinates.now colours.now len)) (before out) result (after out) }
+    ensures { Tells truth_stored (queue_empty (queue_from coordinates.now colours.now len)) (before out) result (after out) }
 {
-    let queue = slices::queue_from(coordinates, colours, len);
-    let answer = queue::is_empty(queue);
-    judged(answer, out)
+    judged(
+        queue::is_empty(slices::queue_from(coordinates, colours, len)),
+        out,
+    )
 }
 
 pub fn port_queue_len(coordinates: &[i32], colours: &[u32], len: usize, out: &mut [u64]) -> u32
-    ensures { TellsCount (queue_length (queue_from coordinates.now colours.now len)) (before out) result (after out) }
+    ensures { Tells value_stored (queue_length (queue_from coordinates.now colours.now len)) (before out) result (after out) }
 {
-    let queue = slices::queue_from(coordinates, colours, len);
-    let answer = queue::len(queue);
-    counted(answer, out)
+    counted(
+        queue::len(slices::queue_from(coordinates, colours, len)),
+        out,
+    )
 }

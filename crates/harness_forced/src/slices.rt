@@ -1,57 +1,55 @@
 // How queues and forced positions cross as slices.
-ghost use Rattle.std.specs.Prelude.{◌≡◌, ◌<◌, get_or, pos};
+ghost use Rattle.std.specs.Prelude.{◌≡◌, ◌<◌, ◌≤◌, get_or, length};
+ghost use Rattle.base.specs.Tables.{tab};
 ghost use Rattle.rules.specs.Bounds.{queue_room};
-ghost use Rattle.base.specs.Refusal.{Gives};
 ghost use Rattle.rules.specs.Promises.{before, after};
 ghost use Rattle.boundary_slots.specs.Slots.{put};
-ghost use Rattle.boundary.specs.Boundary.{written_number};
+ghost use Rattle.boundary.specs.Boundary.{Tells};
 ghost use Rattle.harness_forced.specs.Slices.{entry_at, queue_from, positions_from, slices_before, slices_after};
-ghost use Rattle.harness_forced.specs.Slices.{place_stored, queue_stored, positions_stored, added_left, TellsNext, found_left};
+ghost use Rattle.harness_forced.specs.Slices.{place_stored, stored, positions_stored, grown_stored, TellsNext};
 
-use boundary_slots::{put_long, put_signed, put_word};
+use boundary::written;
+use boundary_slots::put;
 use rules::{ForcedPipeline, ForcedPosition, ForcedPositions, Refusal, World};
 
-fn signed_at(words: &[i32], at: usize) -> i32
-    ensures { result ≡ get_or words.now at (pos 0) }
+// An element, or `none` where the slice does not have it.
+fn element<T: Copy>(elements: &[T], at: usize, none: T) -> T
+    ensures { result ≡ get_or elements.now at none }
 {
-    if at < words.len() {
-        return words[at];
+    if at < elements.len() {
+        return elements[at];
     }
-    0
-}
-
-fn word_at(words: &[u32], at: usize) -> u32
-    ensures { result ≡ get_or words.now at 0 }
-{
-    if at < words.len() {
-        return words[at];
-    }
-    0
+    none
 }
 
 fn entry_at(coordinates: &[i32], colours: &[u32], i: usize) -> ForcedPosition
     requires { i < queue_room }
     ensures { result ≡ entry_at coordinates.now colours.now i }
 {
-    let row = signed_at(coordinates, 2 * i);
-    let col = signed_at(coordinates, 2 * i + 1);
-    let colour = word_at(colours, i);
     ForcedPosition {
-        coordinates: World(row, col),
-        colour,
+        coordinates: World(
+            element(coordinates, 2 * i, 0),
+            element(coordinates, 2 * i + 1, 0),
+        ),
+        colour: element(colours, i, 0),
+    }
+}
+
+// Each of the entries as the slices have it.
+fn fill(entries: &mut [ForcedPosition], coordinates: &[i32], colours: &[u32])
+    requires { length entries.old ≤ queue_room }
+    ensures { after entries ≡ tab (length (before entries)) (entry_at coordinates.now colours.now) }
+{
+    for (i, entry) in entries.iter_mut().enumerate() {
+        *entry = entry_at(coordinates, colours, i);
     }
 }
 
 pub fn queue_from(coordinates: &[i32], colours: &[u32], len: usize) -> ForcedPipeline
     ensures { result ≡ queue_from coordinates.now colours.now len }
 {
-    let none = queue::new();
-    let mut entries = none.entries;
-    let mut i = 0;
-    while i < rules::QUEUE_ROOM {
-        entries[i] = entry_at(coordinates, colours, i);
-        i += 1;
-    }
+    let mut entries = queue::new().entries;
+    fill(&mut entries, coordinates, colours);
     ForcedPipeline { entries, len }
 }
 
@@ -63,11 +61,7 @@ pub fn positions_from(coordinates: &[i32], colours: &[u32], len: usize) -> Force
         colour: 0,
     };
     let mut entries = [none; rules::ADDED_ROOM];
-    let mut i = 0;
-    while i < rules::ADDED_ROOM {
-        entries[i] = entry_at(coordinates, colours, i);
-        i += 1;
-    }
+    fill(&mut entries, coordinates, colours);
     ForcedPositions { entries, len }
 }
 
@@ -75,10 +69,7 @@ pub fn positions_from(coordinates: &[i32], colours: &[u32], len: usize) -> Force
 pub fn length_at(longs: &[u64]) -> usize
     ensures { result ≡ get_or longs.now 0 0 }
 {
-    if 0 < longs.len() {
-        return longs[0] as usize;
-    }
-    0
+    element(longs, 0, 0) as usize
 }
 
 // The place and the colour of entry i.
@@ -86,80 +77,48 @@ fn put_entry(entry: ForcedPosition, i: usize, coordinates: &mut [i32], colours: 
     requires { i < queue_room }
     ensures { (after coordinates ≡ place_stored entry i (before coordinates)) × (after colours ≡ put (before colours) i entry.colour) }
 {
-    let place = entry.coordinates;
-    put_signed(coordinates, 2 * i, place.0);
-    put_signed(coordinates, 2 * i + 1, place.1);
-    put_word(colours, i, entry.colour);
+    put(coordinates, 2 * i, entry.coordinates.0);
+    put(coordinates, 2 * i + 1, entry.coordinates.1);
+    put(colours, i, entry.colour);
 }
 
-pub fn put_queue(
-    queue: ForcedPipeline,
+// All entries of a room, and how many of them count.
+fn put_entries(
+    entries: &[ForcedPosition],
+    n: usize,
     coordinates: &mut [i32],
     colours: &mut [u32],
     len: &mut [u64],
 )
-    ensures { slices_after coordinates colours len ≡ queue_stored queue (slices_before coordinates colours len) }
+    requires { length entries.now ≤ queue_room }
+    ensures { slices_after coordinates colours len ≡ stored (length entries.now) entries.now n (slices_before coordinates colours len) }
 {
-    let entries = queue.entries;
-    let mut i = 0;
-    while i < rules::QUEUE_ROOM {
-        let entry = entries[i];
-        put_entry(entry, i, coordinates, colours);
-        i += 1;
+    for (i, entry) in entries.iter().enumerate() {
+        put_entry(*entry, i, coordinates, colours);
     }
-    put_long(len, 0, queue.len as u64);
-}
-
-pub fn put_positions(
-    positions: ForcedPositions,
-    coordinates: &mut [i32],
-    colours: &mut [u32],
-    len: &mut [u64],
-)
-    ensures { slices_after coordinates colours len ≡ positions_stored positions (slices_before coordinates colours len) }
-{
-    let entries = positions.entries;
-    let mut i = 0;
-    while i < rules::ADDED_ROOM {
-        let entry = entries[i];
-        put_entry(entry, i, coordinates, colours);
-        i += 1;
-    }
-    put_long(len, 0, positions.len as u64);
+    put(len, 0, n as u64);
 }
 
 // What adding answers: the queue as it is then goes back, unless the call is refused.
 pub fn added_given(
     answer: Result<(), Refusal>,
-    queue: ForcedPipeline,
+    queue: &ForcedPipeline,
     coordinates: &mut [i32],
     colours: &mut [u32],
     len: &mut [u64],
 ) -> u32
-    ensures { Gives (written_number answer) (added_left answer queue (slices_before coordinates colours len)) result (slices_after coordinates colours len) }
+    ensures { Tells (grown_stored queue.now) answer (slices_before coordinates colours len) result (slices_after coordinates colours len) }
 {
-    match answer {
-        Ok(()) => {
-            put_queue(queue, coordinates, colours, len);
-            0
-        }
-        Err(n) => n as u32,
+    if let Ok(()) = answer {
+        put_entries(&queue.entries, queue.len, coordinates, colours, len);
     }
+    written(answer)
 }
 
-// The position that is taken, and that there is one.
-fn put_taken(position: ForcedPosition, taken: &mut [i32], colour: &mut [u32], found: &mut [u32])
-    ensures { (after taken ≡ place_stored position 0 (before taken)) × (after colour ≡ put (before colour) 0 position.colour)
-        × (after found ≡ put (before found) 0 1) }
-{
-    put_entry(position, 0, taken, colour);
-    put_word(found, 0, 1);
-}
-
-// What taking answers: the queue as it is then goes back, unless the call is refused.
+// What taking answers: the queue as it is then, and the position that is taken or that there is none, unless the call is refused.
 pub fn taken_given(
     next: Result<Option<ForcedPosition>, Refusal>,
-    queue: ForcedPipeline,
+    queue: &ForcedPipeline,
     coordinates: &mut [i32],
     colours: &mut [u32],
     len: &mut [u64],
@@ -167,36 +126,34 @@ pub fn taken_given(
     colour: &mut [u32],
     found: &mut [u32],
 ) -> u32
-    ensures { TellsNext next queue coordinates colours len taken colour found result }
+    ensures { TellsNext next queue.now coordinates colours len taken colour found result }
 {
     match next {
-        Ok(Some(position) => {
-            put_queue(queue, coordinates, colours, len);
-            put_taken(position, taken, colour, found);
-            0
+        Ok(Some(position)) => {
+            put_entries(&queue.entries, queue.len, coordinates, colours, len);
+            put_entry(position, 0, taken, colour);
+            put(found, 0, 1);
         }
         Ok(None) => {
-            put_queue(queue, coordinates, colours, len);
-            put_word(found, 0, 0);
-            0
+            put_entries(&queue.entries, queue.len, coordinates, colours, len);
+            put(found, 0, 0);
         }
-        Err(n) => n as u32,
+        Err(_) => {}
     }
+    written(next)
 }
 
 // What forced neighbours answers: the positions go back, unless the call is refused.
 pub fn forced_given(
-    refused: u8,
-    found: ForcedPositions,
+    answer: Result<ForcedPositions, Refusal>,
     coordinates: &mut [i32],
     colours: &mut [u32],
     len: &mut [u64],
 ) -> u32
-    ensures { Gives refused (found_left refused found (slices_before coordinates colours len)) result (slices_after coordinates colours len) }
+    ensures { Tells positions_stored answer (slices_before coordinates colours len) result (slices_after coordinates colours len) }
 {
-    if refused != 0 {
-        return refused as u32;
+    if let Ok(found) = answer {
+        put_entries(&found.entries, found.len, coordinates, colours, len);
     }
-    put_positions(found, coordinates, colours, len);
-    0
+    written(answer)
 }

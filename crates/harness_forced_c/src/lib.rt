@@ -4,7 +4,7 @@
 ghost use Rattle.rules.specs.Forced.{queue_empty, queue_length};
 ghost use Rattle.rules.specs.Promises.{before, after};
 ghost use Rattle.boundary_slots.specs.Slots.{world, offset_by, bounds_from};
-ghost use Rattle.boundary.specs.Boundary.{TellsVerdict, TellsCount};
+ghost use Rattle.boundary.specs.Boundary.{value_stored, truth_stored, Tells};
 ghost use Rattle.harness_forced.specs.Slices.{queue_from, positions_from, PortForces, PortAdds, PortTakes};
 
 #[unsafe(no_mangle)]
@@ -93,7 +93,7 @@ pub extern "C" fn port_queue_is_empty(
     len: usize,
     out: &mut [u32],
 ) -> u32
-    ensures { TellsVerdict (queue_empty (queue_from coordinates.now colours.now len)) (before out) result (after out) }
+    ensures { Tells truth_stored (queue_empty (queue_from coordinates.now colours.now len)) (before out) result (after out) }
 {
     harness_forced::port_queue_is_empty(coordinates, colours, len, out)
 }
@@ -105,7 +105,7 @@ pub extern "C" fn port_queue_len(
     len: usize,
     out: &mut [u64],
 ) -> u32
-    ensures { TellsCount (queue_length (queue_from coordinates.now colours.now len)) (before out) result (after out) }
+    ensures { Tells value_stored (queue_length (queue_from coordinates.now colours.now len)) (before out) result (after out) }
 {
     harness_forced::port_queue_len(coordinates, colours, len, out)
 }

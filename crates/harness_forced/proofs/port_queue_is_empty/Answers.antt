@@ -2,11 +2,8 @@
 use mathlib.Core.Path.{◌∙◌, ap}
 use Rattle.rules.specs.Forced.{queue_empty}
 use Rattle.boundary.proofs.Back.{passed_on}
-use Rattle.boundary.specs.Boundary.{verdict_number, verdict_left}
+use Rattle.boundary.specs.Boundary.{told_left, truth_stored}
 use Rattle.harness_forced.proofs.port_queue_is_empty.Goals as goal
 
 pub returns : goal.returns
-returns c =
-    passed_on verdict_number verdict_left
-    (c.is_empty-answer.ensures ∙ ap queue_empty c.queue_from-queue.ensures)
-    c.judged.ensures
+returns c = passed_on (told_left truth_stored) (c.is_empty.ensures ∙ ap queue_empty c.queue_from.ensures) c.judged.ensures

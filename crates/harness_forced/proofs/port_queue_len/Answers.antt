@@ -2,11 +2,8 @@
 use mathlib.Core.Path.{◌∙◌, ap}
 use Rattle.rules.specs.Forced.{queue_length}
 use Rattle.boundary.proofs.Back.{passed_on}
-use Rattle.boundary.specs.Boundary.{count_number, count_left}
+use Rattle.boundary.specs.Boundary.{told_left, value_stored}
 use Rattle.harness_forced.proofs.port_queue_len.Goals as goal
 
 pub returns : goal.returns
-returns c =
-    passed_on count_number count_left
-    (c.len-answer.ensures ∙ ap queue_length c.queue_from-queue.ensures)
-    c.counted.ensures
+returns c = passed_on (told_left value_stored) (c.len.ensures ∙ ap queue_length c.queue_from.ensures) c.counted.ensures

@@ -4,6 +4,6 @@ use Rattle.harness_forced.proofs.slices.entry_at.Goals as goal
 
 pub returns : goal.returns
 returns c =
-    let row = c.signed_at-row in
-    let col = c.signed_at-col in
-    entry-is _ _ _ row.result col.result row.type_inv col.type_inv row.ensures col.ensures c.word_at-colour.ensures
+    let row = c.element in
+    let col = c.element-2 in
+    entry-is _ _ _ row.result col.result row.type_inv col.type_inv row.ensures col.ensures c.element-3.ensures
