@@ -3,23 +3,11 @@ use mathlib.Core.Path.{refl, sym, ◌∙◌}
 use native.Mathlib.Omega.{arith}
 use Rattle.base.proofs.Numbers.{cell-lt}
 use Rattle.fit_scan.specs.Scanned.{scanned}
-use Rattle.fit_scan.proofs.Search.{found_at, found_none, no_row, row-start, cell-done, row_done, rows-done}
+use Rattle.fit_scan.proofs.Search.{found_at, found_none, no_row, cell-done, rows-done}
 use Rattle.fit_scan.proofs.first_dead_end.Goals as goal
 
 pub scan-init : goal.scan-init
 scan-init c = record { nowhere = refl; row_in = omega arith; passed = no_row _ _ }
-
-pub loop-col-init : goal.loop-col-init
-loop-col-init c =
-    let i = c.scan.invariant in
-    record { nowhere = i.nowhere; row_in = c.scan-test.true; col-in = omega arith; passed = row-start _ _ i.passed }
-
-pub is_dead_end-requires : goal.is_dead_end-requires
-is_dead_end-requires c =
-    record {
-      scannable = c.requires;
-      cell_on = record { rowwise = c.loop-col.invariant.row_in; colwise = c.loop-col-test.true };
-    }
 
 pub loop-col-preserved : goal.loop-col-preserved
 loop-col-preserved c =
@@ -30,11 +18,6 @@ loop-col-preserved c =
       col-in = omega arith;
       passed = cell-done _ _ _ i.passed (sym c.is_dead_end.ensures ∙ c.if-is_dead_end.false);
     }
-
-pub scan-preserved : goal.scan-preserved
-scan-preserved c =
-    let i = c.loop-col.invariant in
-    record { nowhere = i.nowhere; row_in = omega arith; passed = row_done _ _ _ _ i.col-in c.loop-col-test.false i.passed }
 
 pub returns-after-scan : goal.returns-after-scan
 unfolding scanned
