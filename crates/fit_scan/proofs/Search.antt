@@ -1,6 +1,6 @@
 -- The search row by row, and what each way out of it answers.
 --     found_at, found_none    the first cell that qualifies, and that there is none
---     no_row, row-start, cell-done, row_done, rows-done    the cells that the loops passed
+--     no_row, cell-done, rows-done    the cells that the loops passed
 --     dead-laid, dead-light, dead-listed    whether a cell qualifies
 -- Assumes nothing.
 use Rattle.std.specs.Prelude.{Some, None}
@@ -8,7 +8,7 @@ use Prim.Native.Nat.{ℕ, ◌+◌, ◌*◌, ◌<◌, ◌≤◌}
 use mathlib.Core.Path.{◌≡◌, sym, ◌∙◌, ap}
 use mathlib.Core.Bool.{Bool, true, false, not}
 use mathlib.Core.List.{List}
-use native.Mathlib.Nat.{add-mul, one-mul, zero-mul}
+use native.Mathlib.Nat.{zero-mul}
 use native.Mathlib.Omega.{arith}
 use borrow.Author.Tests.{lt-ltb, le-ltb}
 use lib.Dec.{ltb, eqb}
@@ -39,22 +39,14 @@ module _ (n cols : ℕ) (test : ℕ → Bool) where
       let f : first n test ≡ n = first-none test n (none_of test n e) in
       rw (f, le-ltb n n (omega arith))
 
--- the cells that the loops passed: before the first row, at the start of a row, after a cell, after a row, after the last row
+-- the cells that the loops passed: before the first row, after a cell, after the last row
 pub no_row : (test : ℕ → Bool) (cols : ℕ) → some (0 * cols) test ≡ false
 no_row test cols = ap (λ (m : ℕ). some m test) (zero-mul cols) ∙ some-none test
-
-pub row-start : (test : ℕ → Bool) (k : ℕ) → some k test ≡ false → some (k + 0) test ≡ false
-row-start test k e = let z : k + 0 ≡ k = omega arith in ap (λ (m : ℕ). some m test) z ∙ e
 
 pub cell-done : (test : ℕ → Bool) (k col : ℕ) → some (k + col) test ≡ false → test (k + col) ≡ false → some (k + (col + 1)) test ≡ false
 cell-done test k col e t =
     let z : k + (col + 1) ≡ k + col + 1 = omega arith in
     ap (λ (m : ℕ). some m test) z ∙ some_next test e t
-
-pub row_done : (test : ℕ → Bool) (row col cols : ℕ) → col ≤ cols → cols ≤ col → some (row * cols + col) test ≡ false → some ((row + 1) * cols) test ≡ false
-row_done test row col cols p q e =
-    let k : (row + 1) * cols ≡ row * cols + col = omega (arith, add-mul row 1 cols, one-mul cols) in
-    ap (λ (m : ℕ). some m test) k ∙ e
 
 pub rows-done : (test : ℕ → Bool) (rows row cols : ℕ) → row ≤ rows → rows ≤ row → some (row * cols) test ≡ false → some (rows * cols) test ≡ false
 rows-done test rows row cols p q e =
