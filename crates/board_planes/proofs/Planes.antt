@@ -1,23 +1,17 @@
 -- The checks of three planes in the words of a function that has asked for a number first: laws for `search`, beside `chain`.
---     then-part      a part that stands last, and whose answer is the function's
 --     planes-as      the lengths, by the number of cells
 --     contents-by    the contents, by the number of tiles that `tile_number` answers
 -- Assumes nothing.
 use Prim.Native.Nat.{ℕ}
-use mathlib.Core.Path.{◌≡◌, refl, ◌∙◌, ap}
+use mathlib.Core.Path.{◌≡◌, ◌∙◌, ap}
 use mathlib.Core.List.{List}
 use Rattle.std.specs.Prelude.{Ok}
-use Rattle.base.specs.Refusal.{Checks, ◌then◌, refusal}
-use Rattle.base.proofs.Chain.{go}
 use Rattle.rules.specs.Tests.{tiles_in}
 use Rattle.rules.specs.Tiles.{tiles_counted}
 use Rattle.rules.specs.Board.{Board, plane_lengths, board_contents}
 use Rattle.rules.specs.Promises.{board}
 use Rattle.check_sizes.proofs.Tiled.{so-many}
-use Rattle.rules.specs.Answers.{Answer, answered, checked}
-
-pub then-part : {x : Answer Unit} (cs ds : Checks) → 0 ≡ refusal cs → x ≡ checked ds → x ≡ checked (cs then ds)
-then-part cs ds z e = e ∙ ap (λ (n : ℕ). answered n tt) (go (refusal ds) cs ds z refl)
+use Rattle.rules.specs.Answers.{Answer, checked}
 
 pub planes-as : {x : Answer Unit} (pieces weights counts : List ℕ) (m n : ℕ) → x ≡ checked (plane_lengths m (board pieces weights counts)) → m ≡ n
     → x ≡ checked (plane_lengths n (board pieces weights counts))

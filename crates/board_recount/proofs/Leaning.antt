@@ -3,8 +3,8 @@ use Prim.Native.Nat.{ℕ}
 use mathlib.Core.Path.{◌≡◌, refl, sym, ◌∙◌, ap}
 use mathlib.Core.List.{List}
 use Rattle.std.specs.Prelude.{Ok}
-use Rattle.base.specs.Refusal.{Checks, ◌then◌, refusal}
-use Rattle.base.proofs.Chain.{Passes, go, all_pass}
+use Rattle.base.specs.Refusal.{refusal}
+use Rattle.base.proofs.Chain.{Passes, all_pass}
 use Rattle.rules.specs.Tests.{tiles_in}
 use Rattle.rules.specs.Places.{cell_of}
 use Rattle.rules.specs.Fit.{pieces_checks}
@@ -17,11 +17,7 @@ use Rattle.fit_windows.specs.Ready.{Countable}
 use Rattle.fit_windows.proofs.Accepted.{ready-from}
 use Rattle.board_near.specs.Near.{OnPlane}
 use Rattle.board_near.proofs.Leaning.{on-plane}
-use Rattle.rules.specs.Answers.{Answer, answered, checked}
-
--- a part that stands last, and whose answer is the function's
-pub then-part : {x : Answer Unit} (cs ds : Checks) → 0 ≡ refusal cs → x ≡ checked ds → x ≡ checked (cs then ds)
-then-part cs ds z e = e ∙ ap (λ (n : ℕ). answered n tt) (go (refusal ds) cs ds z refl)
+use Rattle.rules.specs.Answers.{Answer, checked}
 
 -- the contents, by the number of tiles that `tile_number` answers
 pub counted-by : (counts pieces tiles : List ℕ) (count : ℕ) {a : Answer ℕ} (x : ℕ) → a ≡ Ok x → a ≡ tiles_counted tiles

@@ -1,20 +1,18 @@
 -- What checks answer and what accepted ones give to the calls, beside `accepted-ready` of `fit_windows`.
---     then-part    a part that stands last, and whose answer is the function's
 --     grid-on, place-on    a cell on the grid
 --     accepted-counted    a cell of accepted counts
 -- Assumes nothing.
 use Prim.Native.Nat.{ℕ, ◌*◌, ◌<◌, ◌≤◌}
-use mathlib.Core.Path.{◌≡◌, refl, ◌∙◌, ap}
+use mathlib.Core.Path.{◌≡◌, refl}
 use mathlib.Core.Bool.{true}
 use mathlib.Core.List.{List}
 use borrow.Author.Tests.{ltb-true}
 use lib.Dec.{ltb}
 use lib.ListN.{length}
-use Rattle.base.specs.Refusal.{Checks, ◌then◌, refusal}
+use Rattle.base.specs.Refusal.{refusal}
 use Rattle.base.proofs.Bools.{and_left, and_right}
 use Rattle.base.proofs.Numbers.{cell-lt}
-use Rattle.base.proofs.Chain.{all_pass, go}
-use Rattle.rules.specs.Answers.{Answer, answered, checked}
+use Rattle.base.proofs.Chain.{all_pass}
 use Rattle.rules.specs.Bounds.{max_cells, max_tiles}
 use Rattle.rules.specs.Places.{cell_of}
 use Rattle.rules.specs.Grid.{entry_of, on_grid}
@@ -26,9 +24,6 @@ use Rattle.rules.specs.declared.Offset.{Offset}
 use Rattle.check_sizes.proofs.Sides.{few-cells, long, tiles-most}
 use Rattle.places.proofs.Indices.{placed, row_below, col-below}
 use Rattle.fit_pattern.specs.Ready.{CellOn}
-
-pub then-part : {x : Answer Unit} (cs ds : Checks) → 0 ≡ refusal cs → x ≡ checked ds → x ≡ checked (cs then ds)
-then-part cs ds z e = e ∙ ap (λ (n : ℕ). answered n tt) (go (refusal ds) cs ds z refl)
 
 -- a cell that was tested, and the cell of a place that was not refused
 pub grid-on : (rows cols : ℕ) (cell : Cell) → on_grid rows cols cell ≡ true → CellOn rows cols cell.0 cell.1

@@ -2,6 +2,7 @@
 --     numbered, reasons    a refusal has a number, which names it; and the numbers 1 to 10 are those of the refusals that they name
 --     by-number, caught, stopped, went-on    that a call answers a refusal: by its number, or because a part answered it, one that stands
 --         first or one behind parts that pass
+--     then-part    what a part that stands last answers, when those before it pass
 --     passed, told-by      of a part that did not refuse: its checks pass, and what it told
 --     refuses, tells       what a call that tells answers; refused, done what one that writes promises, and was-written what such a promise says
 --     answers              all that `search` needs, beside base's `chain`
@@ -74,6 +75,10 @@ first-stays : {r : Refusal} (n m : ℕ) → Err r ≡ answered {A = Unit {0}} n 
 first-stays zero m e = absurd (no-refusal e)
 first-stays (suc n) m e = e
 
+-- a part that stands last, and whose answer is the function's
+pub then-part : {x : Answer Unit} (cs ds : Checks) → 0 ≡ refusal cs → x ≡ checked ds → x ≡ checked (cs then ds)
+then-part cs ds z e = e ∙ ap (λ (n : ℕ). answered n tt) (go (refusal ds) cs ds z refl)
+
 module _ {r : Refusal} (cs : Checks) where
   pub by-number : number r ≡ refusal cs → Err r ≡ checked cs
   by-number e = from-number r tt (refusal cs) e
@@ -86,7 +91,7 @@ module _ {r : Refusal} (cs : Checks) where
   stopped ds e = first-stays (refusal cs) (refusal ds) e
 
   pub went-on : (ds : Checks) → 0 ≡ refusal cs → Err r ≡ checked ds → Err r ≡ checked (cs then ds)
-  went-on ds z e = e ∙ ap (λ (n : ℕ). answered n tt) (go (refusal ds) cs ds z refl)
+  went-on ds z e = then-part cs ds z e
 
   pub refuses : {A : Type 0} (a : A) → Err r ≡ checked cs → Err r ≡ answered (refusal cs) a
   refuses a e = other-value (refusal cs) tt a e

@@ -1,12 +1,11 @@
--- The checks of a score call are those of one that fills the scores whole, and then that of the old scores; and a part that stands last.
+-- The checks of a score call are those of one that fills the scores whole, and then that of the old scores.
 -- Assumes nothing.
 use Prim.Native.Nat.{ℕ, zero, suc}
-use mathlib.Core.Path.{◌≡◌, refl, ◌∙◌, ap}
+use mathlib.Core.Path.{◌≡◌, refl}
 use mathlib.Core.List.{List}
 use lib.Ieee.{Float}
 use Rattle.base.specs.Refusal.{Checks, ◌unless◌, ◌then◌, or_else, refusal}
-use Rattle.base.proofs.Chain.{go}
-use Rattle.rules.specs.Answers.{Answer, answered, checked}
+use Rattle.rules.specs.Answers.{checked}
 use Rattle.rules.specs.Bounds.{NUMBER}
 use Rattle.rules.specs.Floats.{is_finite, all_are}
 use Rattle.rules.specs.Scores.{counted_checks, score_checks}
@@ -24,6 +23,3 @@ pub grouped : (scores : List Float) (counts : List ℕ) (rows cols tiles : ℕ)
 unfolding refusal
 grouped scores counts rows cols tiles = simp either-way
 
--- a last part of checks, whose answer is the call's: the parts before it pass
-pub then-part : {x : Answer Unit} (cs ds : Checks) → 0 ≡ refusal cs → x ≡ checked ds → x ≡ checked (cs then ds)
-then-part cs ds z e = e ∙ ap (λ (n : ℕ). answered n tt) (go (refusal ds) cs ds z refl)

@@ -1,9 +1,9 @@
 -- `board_forced::check_board` meets its contract: the lengths, the tiles, and the contents by their number. Assumes nothing.
 use Rattle.base.proofs.Chain.{chain, pass-by}
-use Rattle.rules.proofs.Answered.{answers, handed_to, passed}
+use Rattle.rules.proofs.Answered.{answers, handed_to, passed, then-part}
 use Rattle.check_sizes.proofs.Lengths.{lengths}
 use Rattle.check_sizes.proofs.Tiled.{is_whole, few-tiles}
-use Rattle.board_planes.proofs.Planes.{then-part, contents-by}
+use Rattle.board_planes.proofs.Planes.{contents-by}
 use Rattle.board_forced.proofs.check_board.Goals as goal
 
 pub returns-in_err-check_lengths : goal.returns-in_err-check_lengths

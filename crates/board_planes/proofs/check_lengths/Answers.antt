@@ -1,8 +1,8 @@
 -- `board_planes::check_lengths` meets its contract: the check of the sides, then those of the lengths. Assumes nothing.
 use mathlib.Core.Path.{sym, ◌∙◌}
 use Rattle.base.proofs.Chain.{chain}
-use Rattle.rules.proofs.Answered.{answers}
-use Rattle.board_planes.proofs.Planes.{then-part, planes-as}
+use Rattle.rules.proofs.Answered.{answers, then-part}
+use Rattle.board_planes.proofs.Planes.{planes-as}
 use Rattle.board_planes.proofs.check_lengths.Goals as goal
 
 pub returns-then-not-board_sides : goal.returns-then-not-board_sides

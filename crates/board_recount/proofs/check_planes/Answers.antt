@@ -1,14 +1,14 @@
 -- `board_recount::check_planes` meets its contract: a chain of checks, of which the tiles' is an answer taken apart. Assumes nothing.
 use mathlib.Core.Path.{sym, ◌∙◌}
 use Rattle.base.proofs.Chain.{chain}
-use Rattle.rules.proofs.Answered.{answers, handed_to, caught}
+use Rattle.rules.proofs.Answered.{answers, handed_to, caught, then-part}
 use Rattle.check_sizes.proofs.Lengths.{lengths}
 use Rattle.check_sizes.proofs.Tiled.{few-tiles, is_whole}
 use Rattle.base.specs.Refusal.{◌unless◌}
 use Rattle.rules.specs.Bounds.{LENGTH}
 use Rattle.rules.specs.Tests.{whole_tiles}
 use Rattle.rules.specs.Tiles.{tiles_counted}
-use Rattle.board_recount.proofs.Leaning.{then-part, counted-by}
+use Rattle.board_recount.proofs.Leaning.{counted-by}
 use Rattle.board_recount.proofs.check_planes.Goals as goal
 
 pub returns-then-not-board_sides : goal.returns-then-not-board_sides

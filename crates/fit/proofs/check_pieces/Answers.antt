@@ -1,8 +1,7 @@
 -- `fit::check_pieces` meets its contract: three checks, then those of the colours. Assumes nothing.
 use Rattle.base.proofs.Chain.{chain}
-use Rattle.rules.proofs.Answered.{answers}
+use Rattle.rules.proofs.Answered.{answers, then-part}
 use Rattle.check_sizes.proofs.Lengths.{length-as}
-use Rattle.fit.proofs.Accepted.{then-part}
 use Rattle.fit.proofs.check_pieces.Goals as goal
 
 pub returns-then-not-board_sides : goal.returns-then-not-board_sides

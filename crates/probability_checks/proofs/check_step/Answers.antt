@@ -1,8 +1,7 @@
 -- `probability_checks::check_step` meets its contract: the sizes first, then each exit answers the first check that fails.
 -- Assumes nothing.
 use Rattle.base.proofs.Chain.{chain}
-use Rattle.rules.proofs.Answered.{answers, handed_to, passed}
-use Rattle.probability_checks.proofs.Parts.{then-part}
+use Rattle.rules.proofs.Answered.{answers, handed_to, passed, then-part}
 use Rattle.probability_checks.proofs.check_step.Goals as goal
 
 pub returns-in_err-check_influence : goal.returns-in_err-check_influence

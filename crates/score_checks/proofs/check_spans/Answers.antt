@@ -1,7 +1,6 @@
 -- `score_checks::check_spans` meets its contract: sides, the spans' ends, planes. Assumes nothing.
 use Rattle.base.proofs.Chain.{chain}
-use Rattle.rules.proofs.Answered.{answers}
-use Rattle.score_checks.proofs.Grouped.{then-part}
+use Rattle.rules.proofs.Answered.{answers, then-part}
 use Rattle.score_checks.proofs.check_spans.Goals as goal
 
 pub returns-then-not-board_sides : goal.returns-then-not-board_sides

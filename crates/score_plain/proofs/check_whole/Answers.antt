@@ -1,7 +1,6 @@
 -- `score_plain::check_whole` meets its contract: sides, then planes and number. Assumes nothing.
 use Rattle.base.proofs.Chain.{chain}
-use Rattle.rules.proofs.Answered.{answers}
-use Rattle.score_checks.proofs.Grouped.{then-part}
+use Rattle.rules.proofs.Answered.{answers, then-part}
 use Rattle.score_plain.proofs.check_whole.Goals as goal
 
 pub returns-then-not-board_sides : goal.returns-then-not-board_sides

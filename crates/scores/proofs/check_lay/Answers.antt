@@ -1,7 +1,6 @@
 -- `scores::check_lay` meets its contract: sides, planes, place. Assumes nothing.
 use Rattle.base.proofs.Chain.{chain}
-use Rattle.rules.proofs.Answered.{answers, handed_to, passed}
-use Rattle.score_checks.proofs.Grouped.{then-part}
+use Rattle.rules.proofs.Answered.{answers, handed_to, passed, then-part}
 use Rattle.scores.proofs.check_lay.Goals as goal
 
 pub returns-then-not-board_sides : goal.returns-then-not-board_sides
