@@ -8,108 +8,60 @@ mod laying;
 mod list;
 mod tile_steps;
 
+use list::Record;
 use std::fs::File;
 use std::io;
 use std::io::Read;
 use std::rt::Files;
 
-const LONGEST_FILE: usize = 24576;
+const LONGEST_FILE: u64 = 24576;
 
-fn answers(step: usize, values: &[u64], marks: &[u64]) -> bool {
-    match step {
-        0 => tile_steps::extract(values, marks),
-        1 => board_steps::region_count(values, marks),
-        2 => board_steps::scan(values, marks),
-        3 => board_steps::raise(values, marks),
-        4 => board_steps::lower(values, marks),
-        5 => board_steps::recount(values, marks),
-        6 => board_steps::fresh(values, marks),
-        7 => laying::fitting_colours(values, marks),
-        8 => laying::lay(values, marks),
-        _ => laying::lift(values, marks),
-    }
-}
-
-// Whether the step answers as the line says.
-fn as_recorded(step: usize, line: &[u8]) -> bool {
-    let mut values = [0u64; list::VALUES];
-    let mut marks = [0u64; list::MARKS];
-    list::split(line, &mut values, &mut marks);
-    answers(step, &values, &marks)
-}
-
-// Where the line that starts here ends, what ends it included.
-fn line_end(text: &[u8], from: usize) -> usize {
-    let mut i = from;
-    while i < text.len() {
-        if text[i] == b'\n' {
-            return i + 1;
+// Replays the records one by one, up to the first that differs.
+fn replay_all(
+    rt: &(impl Print + Alloc),
+    step: fn(&Record) -> bool,
+    records: &[u8],
+) -> io::Result<()>
+    requires { IsAlwaysCallable step }
+{
+    let mut same = 0u32;
+    for line in records.split_inclusive(|byte| *byte == b'\n') {
+        if !step(&Record::of(line)) {
+            let told = format!(in rt.alloc(); "record {same:02} differs\n")?;
+            return rt.write_all(told.as_bytes());
         }
-        i += 1;
+        same = same.saturating_add(1);
     }
-    i
+    let told = format!(in rt.alloc(); "{same:02} answers as recorded\n")?;
+    rt.write_all(told.as_bytes())
 }
 
-fn part(text: &[u8], from: usize, to: usize) -> &[u8] {
-    if to < from {
-        return text;
-    }
-    if text.len() < to {
-        return text;
-    }
-    &text[from..to]
-}
-
-fn text(rt: &impl Print, values: &[u8]) -> io::Result<()> {
-    rt.write_all(values)
-}
-
-fn print_number(rt: &impl Print, n: usize) -> io::Result<()> {
-    let bytes = [b'0' + (n / 10 % 10) as u8, b'0' + (n % 10) as u8];
-    text(rt, &bytes)
-}
-
-// Replays the records one by one, a hundred at the most, up to the first that differs.
-fn replay_all(rt: &impl Print, step: usize, records: &[u8]) -> io::Result<()> {
-    let mut from = 0;
-    let mut k = 0;
-    while k < 100 {
-        if records.len() <= from {
-            print_number(rt, k)?;
-            return text(rt, b" answers as recorded\n");
-        }
-        let to = line_end(records, from);
-        if !as_recorded(step, part(records, from, to)) {
-            text(rt, b"record ")?;
-            print_number(rt, k)?;
-            return text(rt, b" differs\n");
-        }
-        from = to;
-        k += 1;
-    }
-    Ok(())
-}
-
-fn replay(rt: &(impl Files + Print + Alloc), step: usize, name: &str) -> io::Result<()> {
-    text(rt, name.as_bytes())?;
-    text(rt, b": ")?;
+fn replay(
+    rt: &(impl Files + Print + Alloc),
+    name: &str,
+    step: fn(&Record) -> bool,
+) -> io::Result<()>
+    requires { IsAlwaysCallable step }
+{
+    rt.write_all(name.as_bytes())?;
+    rt.write_all(b": ")?;
     let Ok(file) = File::open(rt, name) else {
-        return text(rt, b"no list\n");
+        return rt.write_all(b"no list\n");
     };
-    let mut input = Vec::new(rt.alloc());
-    file.take(LONGEST_FILE as u64).read_to_end(&mut input)?;
-    replay_all(rt, step, &input)
+    let mut records = Vec::new(rt.alloc());
+    file.take(LONGEST_FILE).read_to_end(&mut records)?;
+    replay_all(rt, step, &records)
 }
 
 fn main(rt: HostRuntime) -> io::Result<()> {
-    replay(&rt, 0, "extract")?;
-    replay(&rt, 1, "region-count")?;
-    replay(&rt, 2, "scan")?;
-    replay(&rt, 3, "weights-up")?;
-    replay(&rt, 4, "weights-down")?;
-    replay(&rt, 5, "recount")?;
-    replay(&rt, 6, "fresh")?;
-    replay(&rt, 7, "fitting-colours")?;
-    replay(&rt, 8, "lay")?;
-    replay(&rt, 9, "lift")
+    replay(&rt, "extract", tile_steps::extract)?;
+    replay(&rt, "region-count", board_steps::region_count)?;
+    replay(&rt, "scan", board_steps::scan)?;
+    replay(&rt, "weights-up", board_steps::raise)?;
+    replay(&rt, "weights-down", board_steps::lower)?;
+    replay(&rt, "recount", board_steps::recount)?;
+    replay(&rt, "fresh", board_steps::fresh)?;
+    replay(&rt, "fitting-colours", laying::fitting_colours)?;
+    replay(&rt, "lay", laying::lay)?;
+    replay(&rt, "lift", laying::lift)
 }

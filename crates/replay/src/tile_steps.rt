@@ -1,23 +1,21 @@
 // The extraction of tiles.
-use crate::list::{ROOM, UNTOUCHED, answered, bytes_are, bytes_in, flag, longs_are, size, word};
+use crate::list::{ROOM, Record, UNTOUCHED};
 
-pub fn extract(values: &[u64], marks: &[u64]) -> bool {
+pub fn extract(record: &Record) -> bool {
     let mut sampleroom = [0u8; ROOM];
-    let sample = bytes_in(values, marks, 0, &mut sampleroom);
+    let sample = record.entries(0, &mut sampleroom);
     let mut storeroom = [0u8; ROOM];
-    let store = bytes_in(values, marks, 6, &mut storeroom);
+    let store = record.entries(6, &mut storeroom);
     let mut out = [UNTOUCHED; 1];
     let number = harness_tiles::port_extract_tiles(
         sample,
-        size(values, marks, 1),
-        size(values, marks, 2),
-        word(values, marks, 3),
-        flag(values, marks, 4),
-        flag(values, marks, 5),
+        record.size(1),
+        record.size(2),
+        record.word(3),
+        record.flag(4),
+        record.flag(5),
         store,
         &mut out,
     );
-    answered(values, marks, 7, number)
-        && longs_are(values, marks, 8, &out)
-        && bytes_are(values, marks, 9, store)
+    record.answered(7, number) && record.holds(8, &out) && record.holds(9, store)
 }

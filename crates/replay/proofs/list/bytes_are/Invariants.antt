@@ -1,6 +1,0 @@
--- `replay::list::bytes_are` ends: it looks at the cells one by one. Assumes nothing.
-use Rattle.std.proofs.Common.{◌-◌, length}
-use Rattle.replay.proofs.list.bytes_are.Given as goal
-
-abbrev pub decreases-loop-i : goal.decreases-loop-i
-decreases-loop-i l = length l.cells - l.i
