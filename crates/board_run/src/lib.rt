@@ -218,6 +218,7 @@ pub fn run_out(
     let mut state = begin(
         pieces, rows, cols, tiles, count, place, offset, bounds, &mut queue,
     );
+    // It ends on three conditions, by what each turn leaves; no range counts the turns.
     while goes_on(state, &queue, budget) {
         state = turn(
             pieces, weights, counts, rows, cols, tiles, count, offset, bounds, &mut queue, state,

@@ -42,6 +42,7 @@ fn neighbour_at(place: World, d: usize) -> World
 fn admitted(bounds: Option<BoundingBox>, place: World) -> bool
     ensures { result ≡ admits bounds place }
 {
+    // `is_none_or` with a closure was tried, here and in `bounds_fit`: its proof did not close.
     match bounds {
         Some(corners) => place_boxes::in_box(corners, place),
         None => true,

@@ -44,7 +44,7 @@ fn put_planes(
     put_headed(out, third, b"fits\n", 0, counts, cols)
 }
 
-// `refused N`, on a line of its own.
+// `refused N`, on a line of its own. N is a number and no `Refusal`: what is promised is promised of any number.
 pub fn put_refused(out: &mut [u8], at: usize, n: u8) -> usize
     ensures { Prints (refused_line n) at (before out) result (after out) }
 {

@@ -42,6 +42,7 @@ fn are_steps(numbers: &[u32], from: usize) -> bool
     ensures { result ≡ is_whole (steps_in (drop from numbers.now)) }
 {
     let mut p = from;
+    // Steps are of two lengths, so no range counts them.
     while p < numbers.len() {
         p = step_end(numbers, p);
     }

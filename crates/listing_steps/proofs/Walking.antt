@@ -28,7 +28,7 @@ use Rattle.listing_lines.specs.Lines.{number_line}
 use Rattle.listing_lines.specs.Pages.{Prints}
 use Rattle.listing_lines.proofs.Written.{writes-none, writes_then, writes_as}
 use Rattle.listing_steps.specs.Steps.{place_at, answer_to, board_past, answers_text, board_in}
-use Rattle.listing_steps.proofs.Numbers.{up-to-ten, told-number}
+use Rattle.rules.proofs.Numbers.{up-to-ten, told-number}
 use Rattle.listing_steps.specs.Walks.{Walks, step_at, steps_from, Stepped, Ran}
 
 -- ---- the number of an answer

@@ -96,6 +96,7 @@ pub fn run_steps(
 {
     let mut q = at;
     let mut p = from;
+    // Steps are of two lengths, so no range counts them.
     while p < numbers.len() {
         q = step(pieces, weights, counts, out, q, tiles, setup, numbers, p);
         p = listing_job::step_end(numbers, p);

@@ -21,7 +21,7 @@ use Rattle.rules.specs.Tests.{has_length, tiles_in, tile_number_fits, whole_tile
 use Rattle.std.specs.Prelude.{Ok, Err}
 use Rattle.rules.specs.Answers.{Answer, answered, number}
 use Rattle.rules.specs.declared.Refusal.{Refusal}
-use Rattle.listing_steps.proofs.Numbers.{up-to-ten, told-refusal, told-value}
+use Rattle.rules.proofs.Numbers.{up-to-ten, told-refusal, told-value}
 use Rattle.rules.specs.Tiles.{starts_along, forms, variants, variant, distinct, extracted, store_with, sample_checks, room_check, extraction, store_after}
 use Rattle.rules.specs.Promises.{Extracts}
 use Rattle.check_sizes.proofs.Sides.{count_most, none_above-entry}

@@ -56,9 +56,14 @@ pub struct Record {
     marks: [usize; MARKS],
 }
 
-// The number with one digit more. What is larger than 64 bits hold reads as the largest.
+// The number with one digit more. The largest of 64 bits is 18446744073709551615, so a number of twenty digits may end in 0 to 5 alone; what
+// is larger reads as one of those.
 fn grown(value: u64, digit: u8) -> u64 {
-    value.saturating_mul(10).saturating_add(u64::from(digit))
+    if value < 1844674407370955161 {
+        value * 10 + u64::from(digit % 10)
+    } else {
+        18446744073709551610 + u64::from(digit % 6)
+    }
 }
 
 impl Record {
@@ -101,8 +106,10 @@ impl Record {
         }
     }
 
+    // The number at which a part begins, also where the part is empty.
     fn number(&self, part: usize) -> u64 {
-        self.part(part).first().copied().unwrap_or(0)
+        let first = self.marks.get(part).copied().unwrap_or(0);
+        self.values.get(first).copied().unwrap_or(0)
     }
 
     pub fn size(&self, part: usize) -> usize {

@@ -16,7 +16,9 @@ use std::rt::Files;
 
 const LONGEST_FILE: u64 = 24576;
 
-// Replays the records one by one, up to the first that differs.
+const MOST_RECORDS: usize = 100;
+
+// Replays the records one by one, a hundred at the most, up to the first that differs.
 fn replay_all(
     rt: &(impl Print + Alloc),
     step: fn(&Record) -> bool,
@@ -25,12 +27,19 @@ fn replay_all(
     requires { IsAlwaysCallable step }
 {
     let mut same = 0u32;
-    for line in records.split_inclusive(|byte| *byte == b'\n') {
+    for line in records
+        .split_inclusive(|byte| *byte == b'\n')
+        .take(MOST_RECORDS)
+    {
         if !step(&Record::of(line)) {
             let told = format!(in rt.alloc(); "record {same:02} differs\n")?;
             return rt.write_all(told.as_bytes());
         }
         same = same.saturating_add(1);
+    }
+    // Of a longer list it says nothing.
+    if same as usize == MOST_RECORDS {
+        return Ok(());
     }
     let told = format!(in rt.alloc(); "{same:02} answers as recorded\n")?;
     rt.write_all(told.as_bytes())

@@ -8,6 +8,7 @@ pub mod ForcedRun
 pub mod Choices
 pub mod Bench
 pub mod Answered
+pub mod Numbers
 pub mod Lowest
 pub mod Shares
 pub mod Fitting

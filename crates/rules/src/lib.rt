@@ -114,6 +114,9 @@ pub struct ForcedPosition {
     pub colour: u32,
 }
 
+// Arrays with a length beside them, here, in the queue and in a list of colours: memory is fixed, nothing is allocated, and document 01 hands a queue in and
+// back whole.
+
 // Forced places in order, as forced neighbours answers them and the queue takes them. Entries past the length are 0 in the answer and
 // are not read by the queue.
 #[derive(Clone, Copy)]

@@ -22,4 +22,3 @@ pub grouped : (scores : List Float) (counts : List ℕ) (rows cols tiles : ℕ)
     → checked (then-old scores counts rows cols tiles) ≡ checked (score_checks scores counts rows cols tiles)
 unfolding refusal
 grouped scores counts rows cols tiles = simp either-way
-

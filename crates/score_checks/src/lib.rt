@@ -8,7 +8,13 @@ ghost use Rattle.rules.specs.Scores.{counted_checks, score_checks, lift_score_ch
 
 use rules::{Refusal, Spans};
 
-pub fn check_counted(scores: &[f64], counts: &[u32], rows: usize, cols: usize, tiles: usize) -> Result<(), Refusal>
+pub fn check_counted(
+    scores: &[f64],
+    counts: &[u32],
+    rows: usize,
+    cols: usize,
+    tiles: usize,
+) -> Result<(), Refusal>
     requires { board_sides rows cols ≡ true }
     ensures { result ≡ checked (counted_checks scores.now counts.now rows cols tiles) }
 {
@@ -27,7 +33,13 @@ pub fn check_counted(scores: &[f64], counts: &[u32], rows: usize, cols: usize, t
     Ok(())
 }
 
-pub fn check_scores(scores: &[f64], counts: &[u32], rows: usize, cols: usize, tiles: usize) -> Result<(), Refusal>
+pub fn check_scores(
+    scores: &[f64],
+    counts: &[u32],
+    rows: usize,
+    cols: usize,
+    tiles: usize,
+) -> Result<(), Refusal>
     requires { board_sides rows cols ≡ true }
     ensures { result ≡ checked (score_checks scores.now counts.now rows cols tiles) }
 {

@@ -28,7 +28,13 @@ pub fn plain_score_near(
 }
 
 // The old scores are not asked about: none of them stays.
-fn check_whole(scores: &[f64], counts: &[u32], rows: usize, cols: usize, tiles: usize) -> Result<(), Refusal>
+fn check_whole(
+    scores: &[f64],
+    counts: &[u32],
+    rows: usize,
+    cols: usize,
+    tiles: usize,
+) -> Result<(), Refusal>
     ensures { result ≡ checked (whole_score_checks scores.now counts.now rows cols tiles) }
 {
     if !check_sizes::board_sides(rows, cols) {

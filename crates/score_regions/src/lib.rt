@@ -42,14 +42,7 @@ pub fn score_region<T: Term>(
     for r in spans.rows.0..spans.rows.1 {
         let from = r * cols + spans.cols.0;
         let to = r * cols + spans.cols.1;
-        score_row::<T>(
-            &mut scores[from..to],
-            counts,
-            tiles,
-            cols,
-            r,
-            spans.cols.0,
-        );
+        score_row::<T>(&mut scores[from..to], counts, tiles, cols, r, spans.cols.0);
     }
 }
 

@@ -69,6 +69,7 @@ fn rotate_times(n: usize, tile: [u8; rules::TILE_CELLS]) -> [u8; rules::TILE_CEL
     requires { n < 4 }
     ensures { result ≡ turned n tile }
 {
+    // A `for` that rotates a local array in place was tried: the borrow checker does not cover it.
     match n {
         0 => tile,
         1 => rotate_90(tile),

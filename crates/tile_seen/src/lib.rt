@@ -1,6 +1,6 @@
 // Whether a tile is among those kept: the text's sorted set `seen`, as buckets of chained tiles over the caller's list. `heads` has for
 // each bucket one more than the number of its last tile, `nexts` for each tile one more than that of the last before it in its bucket; 0:
-// none.
+// none. They are two arrays, since one is counted by buckets and the other by tiles; nothing is allocated.
 #![tactic(auto)]
 
 ghost use Rattle.std.specs.Prelude.{◌≡◌, ◌<◌, get_or};
@@ -51,6 +51,7 @@ pub fn has_tile(
     ensures { result ≡ has_tile tiles.now tile.now }
 {
     let mut last = usize::from(heads[bucket]);
+    // Along a chain, which no range counts.
     while last != 0 {
         let n = last - 1;
         if same_tile(tiles, n, tile) {

@@ -7,4 +7,3 @@ use Rattle.probability_normal.proofs.gather.Given as goal
 
 abbrev pub invariant-loop-t : goal.invariant-loop-t
 invariant-loop-t l = Sweep nan (λ (j : ℕ). get_or l.plane (j * l.cells + l.at) nan) l.initial.out l.out l.t
-

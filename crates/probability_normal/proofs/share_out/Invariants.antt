@@ -8,4 +8,3 @@ use Rattle.probability_normal.proofs.share_out.Given as goal
 
 abbrev pub invariant-loop-p : goal.invariant-loop-p
 invariant-loop-p l = Sweep nan (λ (j : ℕ). over (over (get_or l.initial.ps j nan) l.most) l.sum) l.initial.ps l.ps l.p-index
-
