@@ -1,5 +1,5 @@
 // Document 01, "Places": a plane is copied into a larger one, of which the new cells hold 1. The larger one is filled with 1 whole,
-// and then the rows are laid in it.
+// and then the rows are laid in it. The two calls are not one over any kind of entry, since their checks differ: only floats have NUMBER.
 #![tactic(auto)]
 
 ghost use Rattle.rules.specs.Promises.{before, after, CopiesWords, CopiesFloats};

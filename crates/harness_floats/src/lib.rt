@@ -1,5 +1,6 @@
 // The float steps for tests in another language: each hands its call the numbers and slices that it is given and tells its answer as crate
-// boundary does.
+// boundary does. The product step and its reverse are written out, though alike: each makes a call of its own, and a closure over its eleven
+// arguments would be longer.
 #![tactic(auto)]
 
 ghost use Rattle.rules.specs.Promises.{before, after, Normalises, Multiplies, Divides, ScoresLay, ScoresLift};

@@ -1,4 +1,4 @@
-// The steps on a board.
+// The steps on a board, each with a call of its own; `raise` and `lower`, which are alike, too.
 use crate::list::{ROOM, Record, UNTOUCHED};
 
 pub fn region_count(record: &Record) -> bool {
