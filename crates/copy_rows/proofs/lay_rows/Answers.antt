@@ -35,11 +35,11 @@ offset_bounds-target-from g c =
     in
     search rules
 
-pub slice_bounds-copy_from_slice-end : goal.slice_bounds-copy_from_slice-end
-slice_bounds-copy_from_slice-end g c = (next_row c.loop-i.invariant c.loop-i.auto.target c.loop-i-test.true).laid_in
+pub slice_bounds-lay_row-end : goal.slice_bounds-lay_row-end
+slice_bounds-lay_row-end g c = (next_row c.loop-i.invariant c.loop-i.auto.target c.loop-i-test.true).laid_in
 
 pub loop-i-preserved : goal.loop-i-preserved
-loop-i-preserved g c = laid-turn c.loop-i.invariant c.loop-i.auto.target c.loop-i-test.true c.copy_from_slice.ensures.after
+loop-i-preserved g c = laid-turn c.loop-i.invariant c.loop-i.auto.target c.loop-i-test.true c.lay_row.ensures
 
 pub returns : goal.returns
 unfolding rows_laid
