@@ -92,7 +92,7 @@ fn queue_round(
     place: World,
     offset: Offset,
     bounds: Option<BoundingBox>,
-    queue: &mut Ring,
+    queue: &mut Ring<'_>,
 ) -> Result<(), Refusal>
     requires { Roundable pieces.now rows cols tiles.now count place }
     ensures { Adds (with_positions queue.old (forced_round flat pieces.now rows cols tiles.now count place offset bounds))
@@ -112,7 +112,7 @@ fn begin(
     place: World,
     offset: Offset,
     bounds: Option<BoundingBox>,
-    queue: &mut Ring,
+    queue: &mut Ring<'_>,
 ) -> Progress
     requires { Roundable pieces.now rows cols tiles.now count place × (queue.old ≡ []) }
     ensures { (result.taken ≡ 0) × (result.laid ≡ 0) × ((b : Board) → b.pieces ≡ pieces.now
@@ -140,7 +140,7 @@ fn turn(
     count: u32,
     offset: Offset,
     bounds: Option<BoundingBox>,
-    queue: &mut Ring,
+    queue: &mut Ring<'_>,
     state: Progress,
 ) -> Progress
     requires { Turning (panel rows cols tiles.now offset) count (board pieces.old weights.old counts.old) queue.old state }
@@ -176,14 +176,14 @@ fn turn(
 }
 
 // Whether an entry may be taken.
-fn goes_on(state: Progress, queue: &Ring, budget: usize) -> bool
+fn goes_on(state: Progress, queue: &Ring<'_>, budget: usize) -> bool
     ensures { result ≡ (not state.full && ltb 0 (length queue.now) && ltb state.taken budget) }
 {
     !state.full && !queue.is_empty() && state.taken < budget
 }
 
 // How the run ended. Full is said before spent, and done wherever no entry waits.
-fn ended(state: Progress, queue: &Ring) -> RunEnd
+fn ended(state: Progress, queue: &Ring<'_>) -> RunEnd
     ensures { result ≡ end_by state.full queue.now }
 {
     if state.full {
@@ -214,7 +214,10 @@ pub fn run_out(
     ensures { Ends (panel rows cols tiles.now offset) count place bounds budget
         (board_before pieces weights counts) result (board_after pieces weights counts) }
 {
-    let mut queue = Ring::new();
+    let mut queuerows = [0i32; rules::QUEUE_ROOM];
+    let mut queuecols = [0i32; rules::QUEUE_ROOM];
+    let mut queuecolours = [0u32; rules::QUEUE_ROOM];
+    let mut queue = Ring::new(&mut queuerows, &mut queuecols, &mut queuecolours);
     let mut state = begin(
         pieces, rows, cols, tiles, count, place, offset, bounds, &mut queue,
     );

@@ -1,53 +1,53 @@
-// The queue of a forced run, which stands where its caller made it: a queue handed in and back whole would stand on the stack many times
-// over, and the desk's tablet has little of it. Slots are used one after the other, and slot 0 again after the last.
+// The queue of a forced run, in three arrays that its caller lends: a queue handed in and back whole would stand on the stack many times
+// over, and the desk's tablet has little of it. Three arrays and not one of entries: the compiler fills an array of more than 256 bytes by
+// a call of the C library's memset, and the desk's archive needs no name from outside.
 #![tactic(auto)]
+
+mod lent;
 
 ghost use Rattle.std.specs.Prelude.{◌≡◌, List, [], ◌<◌, ◌≤◌, eqb, length, drop};
 ghost use Rattle.rules.specs.Answers.{next_of};
 ghost use Rattle.rules.specs.Bounds.{queue_room, added_room};
-ghost use Rattle.rules.specs.Forced.{offered, is_queued, with_position, with_positions};
+ghost use Rattle.rules.specs.Forced.{offered, with_positions};
 ghost use Rattle.rules.specs.declared.ForcedPosition.{ForcedPosition};
-ghost use Rattle.queue_ring.specs.Waiting.{slot_of, waiting, Adds};
+ghost use Rattle.queue_ring.specs.Slots.{slots, waiting, Ringed};
+ghost use Rattle.queue_ring.specs.Waiting.{Adds};
 
-use queue_entries::same_place;
-use rules::{ForcedPosition, ForcedPositions, Refusal, World};
+pub use lent::{add_positions, entry_in, slot_of};
+use rules::{ForcedPosition, ForcedPositions, Refusal};
 use std::marker::Model;
 
 #[derive(Drop)]
-pub struct Ring {
-    slots: [ForcedPosition; rules::QUEUE_ROOM],
+pub struct Ring<'a> {
+    rows: &'a mut [i32; rules::QUEUE_ROOM],
+    cols: &'a mut [i32; rules::QUEUE_ROOM],
+    colours: &'a mut [u32; rules::QUEUE_ROOM],
     first: usize,
     len: usize,
 }
 
 // What the clauses see of it: the entries that wait, next out first.
-impl Model for Ring {
+impl<'a> Model for Ring<'a> {
     ghost Value = { List ForcedPosition };
 
-    ghost view = { λ r. waiting r.slots r.first r.len };
+    ghost view = { λ r. waiting (slots r.rows.now r.cols.now r.colours.now) r.first r.len };
 
-    ghost invariant = { λ r. (r.first < queue_room) × (r.len ≤ queue_room) };
+    ghost invariant = { λ r. Ringed (slots r.rows.now r.cols.now r.colours.now) r.first r.len };
 }
 
-// The slot of entry i.
-fn slot_of(first: usize, i: usize) -> usize
-    requires { (first < queue_room) × (i ≤ queue_room) }
-    ensures { (result ≡ slot_of first i) × (result < queue_room) }
-{
-    (first + i) % rules::QUEUE_ROOM
-}
-
-impl Ring {
-    // No entry waits.
-    pub fn new() -> Ring
+impl<'a> Ring<'a> {
+    // No entry waits, whatever the arrays hold.
+    pub fn new(
+        rows: &'a mut [i32; rules::QUEUE_ROOM],
+        cols: &'a mut [i32; rules::QUEUE_ROOM],
+        colours: &'a mut [u32; rules::QUEUE_ROOM],
+    ) -> Ring<'a>
         ensures { result ≡ [] }
     {
-        let none = ForcedPosition {
-            coordinates: World(0, 0),
-            colour: 0,
-        };
         Ring {
-            slots: [none; rules::QUEUE_ROOM],
+            rows,
+            cols,
+            colours,
             first: 0,
             len: 0,
         }
@@ -66,51 +66,25 @@ impl Ring {
         if self.len == 0 {
             return None;
         }
-        let entry = self.slots[self.first];
+        let entry = entry_in(self.rows, self.cols, self.colours, self.first);
         self.first = slot_of(self.first, 1);
         self.len -= 1;
         Some(entry)
     }
 
-    // Whether an entry stands at the place, whatever its colour.
-    fn is_queued(&self, place: World) -> bool
-        ensures { result ≡ is_queued place self.now }
-    {
-        for i in 0..self.len {
-            if same_place(self.slots[slot_of(self.first, i)].coordinates, place) {
-                return true;
-            }
-        }
-        false
-    }
-
-    // One position more, behind the entries, unless its place is queued; ROOM where no slot is free.
-    fn add_position(&mut self, position: ForcedPosition) -> Result<(), Refusal>
-        ensures { Adds (with_position self.old position) self.old result self.new }
-    {
-        if self.is_queued(position.coordinates) {
-            return Ok(());
-        }
-        if self.len == rules::QUEUE_ROOM {
-            return Err(Refusal::Room);
-        }
-        self.slots[slot_of(self.first, self.len)] = position;
-        self.len += 1;
-        Ok(())
-    }
-
-    // All of them, or, where there is not room for all, none: what was put behind the entries is not read then.
+    // All of them, or, where there is not room for all, none.
     pub fn add_positions(&mut self, positions: &ForcedPositions) -> Result<(), Refusal>
         requires { positions.now.len ≤ added_room }
         ensures { Adds (with_positions self.old (offered positions.now)) self.old result self.new }
     {
-        let len = self.len;
-        for position in &positions.entries[..positions.len] {
-            if let Err(refusal) = self.add_position(*position) {
-                self.len = len;
-                return Err(refusal);
-            }
-        }
+        self.len = add_positions(
+            self.rows,
+            self.cols,
+            self.colours,
+            self.first,
+            self.len,
+            *positions,
+        )?;
         Ok(())
     }
 }

@@ -7,5 +7,4 @@ pub returns-then-self-eq0 : goal.returns-then-self-eq0
 returns-then-self-eq0 c = out_none _ _ _ _ c.self.view_is c.if-self-eq0.true
 
 pub returns : goal.returns
-returns c =
-    out_first _ _ _ _ _ c.self.view_is (omega arith) c.self.invariant.0 c.slot_of-self-inside.ensures.0
+returns c = out_first _ _ _ _ _ c.self.view_is (omega arith) c.self.invariant.begins c.slot_of-self-inside.ensures.0 c.entry_in-entry.ensures
