@@ -4,9 +4,9 @@
 pub const ROOM: usize = 192;
 
 // The room for the numbers and the parts of a line.
-const VALUES: usize = 1024;
+pub const VALUES: usize = 1024;
 
-const MARKS: usize = 64;
+pub const MARKS: usize = 64;
 
 // What stands in a slice lent for an answer before the call, and stays where it stores nothing.
 pub const UNTOUCHED: u64 = 77;

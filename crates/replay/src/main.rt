@@ -20,7 +20,7 @@ const MOST_RECORDS: usize = 100;
 
 // Replays the records one by one, a hundred at the most, up to the first that differs.
 fn replay_all(
-    rt: &(impl Print + Alloc),
+    rt: &impl Print,
     step: fn(&Record) -> bool,
     records: &[u8],
 ) -> io::Result<()>
@@ -32,8 +32,7 @@ fn replay_all(
         .take(MOST_RECORDS)
     {
         if !step(&Record::of(line)) {
-            let told = format!(in rt.alloc(); "record {same:02} differs\n")?;
-            return rt.write_all(told.as_bytes());
+            return println!(rt; "record {same:02} differs");
         }
         same = same.saturating_add(1);
     }
@@ -41,8 +40,7 @@ fn replay_all(
     if same as usize == MOST_RECORDS {
         return Ok(());
     }
-    let told = format!(in rt.alloc(); "{same:02} answers as recorded\n")?;
-    rt.write_all(told.as_bytes())
+    println!(rt; "{same:02} answers as recorded")
 }
 
 fn replay(
