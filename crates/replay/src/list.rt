@@ -69,8 +69,11 @@ fn grown(value: u64, digit: u8) -> u64 {
 impl Record {
     // A digit goes on with a number, another byte ends it; a mark and the end of the line end a part.
     pub fn of(line: &[u8]) -> Record {
-        let mut values = [0u64; VALUES];
-        let mut marks = [0usize; MARKS];
+        // Written where it stands: made of two arrays that were filled before, it would be copied at every line.
+        let mut record = Record {
+            values: [0; VALUES],
+            marks: [0; MARKS],
+        };
         let mut stored = 0;
         let mut parts = 0;
         let mut open = None;
@@ -81,17 +84,17 @@ impl Record {
                 if let Some(value) = open
                     && stored < VALUES
                 {
-                    values[stored] = value;
+                    record.values[stored] = value;
                     stored += 1;
                 }
                 open = None;
                 if matches!(byte, b'|' | b'=' | b'\n') && parts < MARKS - 1 {
                     parts += 1;
-                    marks[parts] = stored;
+                    record.marks[parts] = stored;
                 }
             }
         }
-        Record { values, marks }
+        record
     }
 
     // The numbers of a part.
