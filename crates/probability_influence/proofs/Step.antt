@@ -1,5 +1,5 @@
 -- The product step and its reverse, cell by cell: what the block's row says of an entry is what the rules say of it, and what lies
--- outside the region stays.
+-- outside the region stays. Each is said of any step that keeps the laws of one, then of the two steps, which keep them.
 -- Assumes nothing.
 use Prim.Native.Nat.{ℕ, ◌+◌, ◌-◌, ◌*◌, ◌/◌, ◌%◌, ◌<◌, ◌≤◌}
 use mathlib.Core.Path.{◌≡◌, refl, ◌∙◌, ap}
@@ -16,9 +16,10 @@ use Rattle.base.proofs.Bools.{and_left, and_right, and_both, by-test}
 use Rattle.base.proofs.Sweep.{length_part, part_at}
 use Rattle.base.proofs.Regions.{is-between, region-is}
 use Rattle.base.proofs.Numbers.{cell-lt, row_of, col-of, rows_apart}
-use Rattle.rules.specs.Probabilities.{Region, Block, in_region, in_block, influence}
+use Rattle.rules.specs.Probabilities.{Region, Block, in_region, in_block, influence, product_at, quotient_at}
 use Rattle.rules.specs.declared.Span.{Span}
-use Rattle.probability_influence.specs.Step.{CellStep, RowStep, StepLaws, region_in, block_of, block_row, colour_changed}
+use Rattle.probability_influence.specs.Step.{CellStep, RowStep, StepLaws, multiplied_by, divided_by, region_in, block_of, block_row, colour_changed}
+use Rattle.probability_influence.specs.Laws.{product-laws, quotient-laws}
 
 -- so one colour's plane, cell by cell
 pub colour-cells : {f : CellStep} {e : RowStep} → StepLaws f e → (cols : ℕ) (g : Region) (b : Block) (plane : List Float)
@@ -87,6 +88,15 @@ module _ (brows bcols : ℕ) (block : List Float) (long : length block ≡ brows
         ap (λ (x : Span). e (take (x.1 - x.0) (drop x.0 block)) p j) is
         ∙ laws.by-row g b (row_factors brows bcols block (r - rs.0)) p 0 r (cs.0 + j) j here within_block entry
 
+    -- of the two steps
+    pub cell-product : (p : Float) {row : Span} → row ≡ block_row brows bcols (r - rs.0)
+        → multiplied_by (take (row.1 - row.0) (drop row.0 block)) p j ≡ product_at g b p 0 r (cs.0 + j)
+    cell-product p is = cell-change product-laws p is
+
+    pub cell-quotient : (p : Float) {row : Span} → row ≡ block_row brows bcols (r - rs.0)
+        → divided_by (take (row.1 - row.0) (drop row.0 block)) p j ≡ quotient_at g b p 0 r (cs.0 + j)
+    cell-quotient p is = cell-change quotient-laws p is
+
 -- colour t's own part of the block
 abbrev own_block : ℕ → ℕ → List Float → ℕ → Block
 own_block brows bcols block t =
@@ -113,3 +123,14 @@ module _ (brows bcols : ℕ) (block : List Float) (t : ℕ) (g : Region) where
   colour-change laws cells cols j {q = q} h o =
       rw (o, row_of t h, col-of t h)
       (laws.by-factor g (own_block brows bcols block t) (block_of brows bcols block) q 0 t (j / cols) (j % cols) refl (own-entry (j / cols) (j % cols)))
+
+  -- of the two steps
+  pub colour-product : (cells cols j : ℕ) {p q : Float} → j < cells → p ≡ q
+      → product_at g (own_block brows bcols block t) p 0 (j / cols) (j % cols)
+      ≡ product_at g (block_of brows bcols block) q ((t * cells + j) / cells) ((t * cells + j) % cells / cols) ((t * cells + j) % cells % cols)
+  colour-product cells cols j h o = colour-change product-laws cells cols j h o
+
+  pub colour-quotient : (cells cols j : ℕ) {p q : Float} → j < cells → p ≡ q
+      → quotient_at g (own_block brows bcols block t) p 0 (j / cols) (j % cols)
+      ≡ quotient_at g (block_of brows bcols block) q ((t * cells + j) / cells) ((t * cells + j) % cells / cols) ((t * cells + j) % cells % cols)
+  colour-quotient cells cols j h o = colour-change quotient-laws cells cols j h o
