@@ -1,4 +1,5 @@
--- The whole step over the clipped region of a place that was not refused, and that the region lies on the board.
+-- The whole step over the clipped region of a place that was not refused, of any step and of the rules' two, and that the region lies on
+-- the board.
 -- Assumes nothing.
 use Prim.Native.Nat.{ℕ, ◌+◌, ◌*◌, ◌≤◌, min}
 use mathlib.Core.Path.{◌≡◌, refl}
@@ -10,7 +11,7 @@ use lib.Ieee.{Float}
 use Rattle.base.specs.Regions.{RegionFits}
 use Rattle.rules.specs.Tests.{board_sides}
 use Rattle.rules.specs.Places.{cell_of}
-use Rattle.rules.specs.Probabilities.{Block, clipped_to, region_of, changed_by}
+use Rattle.rules.specs.Probabilities.{Block, clipped_to, region_of, changed_by, product_at, quotient_at, multiplied, divided}
 use Rattle.rules.specs.declared.World.{World}
 use Rattle.rules.specs.declared.Offset.{Offset}
 use Rattle.rules.specs.declared.Span.{Span}
@@ -24,6 +25,17 @@ pub whole-step : (cell : CellStep) (rows cols : ℕ) (b : Block) (w : World) (o 
     → colours_changed cell (rows * cols) cols (region_of rows cols w o k) b plane ≡ stepped cell rows cols b w o k plane
 unfolding colours_changed stepped changed_by
 whole-step cell rows cols b w o k plane = refl
+
+-- and of the rules' two, as the calls promise them
+pub whole-product : (rows cols : ℕ) (b : Block) (w : World) (o : Offset) (k : ℕ) (plane : List Float)
+    → colours_changed product_at (rows * cols) cols (region_of rows cols w o k) b plane ≡ multiplied rows cols b w o k plane
+unfolding stepped multiplied
+whole-product rows cols b w o k plane = whole-step product_at rows cols b w o k plane
+
+pub whole-quotient : (rows cols : ℕ) (b : Block) (w : World) (o : Offset) (k : ℕ) (plane : List Float)
+    → colours_changed quotient_at (rows * cols) cols (region_of rows cols w o k) b plane ≡ divided rows cols b w o k plane
+unfolding stepped divided
+whole-quotient rows cols b w o k plane = whole-step quotient_at rows cols b w o k plane
 
 module _ (rows cols : ℕ) (w : World) (o : Offset) (k : ℕ) (p : Placed rows cols w o) {rs cs : Span}
     (r-is : rs ≡ clipped_to rows (span_round (cell_of w o).0 k)) (c-is : cs ≡ clipped_to cols (span_round (cell_of w o).1 k)) where
