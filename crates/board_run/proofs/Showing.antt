@@ -1,6 +1,6 @@
 -- The numbers, planes and queue of the code are those of a run, from its beginning on and after each step.
 --     none_left, one_left    whether an entry is still forced, by the only colour of its cell
---     shows-round    forced neighbours queued, with room for all and without
+--     shows-round    forced neighbours queued, with room for all and without: shows-room, shows-full
 --     shows-dropped, shows-laid    the entry next out taken
 --     shows-begun    the run before an entry is taken
 --     ends-so        how it ended
@@ -31,6 +31,7 @@ use Rattle.rules.specs.declared.ForcedPosition.{ForcedPosition}
 use Rattle.rules.specs.declared.BoundingBox.{BoundingBox}
 use Rattle.rules.specs.declared.RanOut.{RanOut}
 use Rattle.rules.specs.declared.RunEnd.{RunEnd}
+use Rattle.rules.specs.declared.Refusal.{Refusal}
 use Rattle.rules.proofs.ForcedRun.{queued_by, laying_of, added-room, added_full, laid_then, dropped-then, steps_next}
 use Rattle.bitset_colours.proofs.Colours.{one_only}
 use Rattle.fit_forced.specs.Round.{only_at}
@@ -103,6 +104,15 @@ module _ (j : Panel) (count : ℕ) (bounds : Option BoundingBox) (place : World)
       subst (λ (r : Run). Shows r s.board new (record { taken = taken; laid = laid; full = full }))
       (sym (added_full j count bounds place s (subst (λ (l : List ForcedPosition). queue_room < length l) more-is w.0)))
       (record { board = refl; queue = w.2 ∙ waits; taken = t; laid = n; full = f })
+
+  -- from numbers that are those of the run before
+  module _ {b : Board} (p : Progress) (shown : Shows s b old p) {new : List ForcedPosition} where
+    pub shows-room : Adds more old (Ok tt) new → Shows (queueing j count bounds place s) s.board new (record { taken = p.taken; laid = p.laid; full = false })
+    shows-room g = shows-round (Ok tt) false new p.taken p.laid refl shown.taken shown.laid g
+
+    pub shows-full : {r : Refusal} → Adds more old (Err r) new
+        → Shows (queueing j count bounds place s) s.board new (record { taken = p.taken; laid = p.laid; full = true })
+    shows-full {r} g = shows-round (Err r) true new p.taken p.laid refl shown.taken shown.laid g
 
 -- ---- the beginning
 
