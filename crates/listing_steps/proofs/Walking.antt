@@ -1,5 +1,6 @@
--- Laws of the walk along the steps: what a step somewhere in the list is, where the next one starts, and the loop that takes one after the
--- other. Its invariant is that what is left to do, from the board and the page as they are, comes to the whole.
+-- Laws of the walk along the steps: the number of what a call answers, what a step somewhere in the list is, where the next one starts, and
+-- the loop that takes one after the other. Its invariant is that what is left to do, from the board and the page as they are, comes to the
+-- whole.
 -- Assumes nothing.
 use Prim.Native.Nat.{ℕ, suc, ◌+◌, ◌<◌, ◌≤◌}
 use mathlib.Core.Path.{◌≡◌, refl, sym, ◌∙◌, ap, subst}
@@ -13,14 +14,15 @@ use lib.Dec.{eqb}
 use lib.ListN.{length, get_or, drop, drop_of_length-le}
 use lib.Seq.{get_or-drop}
 use borrow.Author.Tests.{eqb-true, eqb-false, ne_eqb}
+use Rattle.std.specs.Prelude.{Ok, Err}
 use Rattle.base.specs.Tables.{fold}
 use Rattle.base.proofs.Bools.{by-test, never}
-use Rattle.base.specs.Refusal.{Gives}
+use Rattle.base.specs.Refusal.{◌unless◌, refusal, Gives}
 use Rattle.base.proofs.Signs.{counted}
-use Rattle.rules.specs.Board.{Panel, Board, lay_checks, after_lay, lift_checks, after_lift}
+use Rattle.rules.specs.Board.{Panel, Board, lay_checks, laying, after_lay, lift_checks, lifting, after_lift}
 use Rattle.rules.specs.Promises.{Lays, Lifts}
 use Rattle.rules.specs.declared.World.{World}
-use Rattle.rules.specs.Answers.{Answer, answered, checked, number_of}
+use Rattle.rules.specs.Answers.{Answer, answered, checked, number_of, number}
 use Rattle.listing_numbers.specs.Input.{max_number}
 use Rattle.listing_job.specs.Form.{Step, lay, lift, Steps, misformed, steps, and_then, steps_in, is_whole, list_of, step_end}
 use Rattle.listing_job.proofs.Forming.{Starts, lay_by, lift_by, lays, lifts, step-at, not-cut, other_at, end-lay, end-lift}
@@ -28,14 +30,32 @@ use Rattle.listing_lines.specs.Lines.{number_line}
 use Rattle.listing_lines.specs.Pages.{Prints}
 use Rattle.listing_lines.proofs.Written.{writes-none, writes_then, writes_as}
 use Rattle.listing_steps.specs.Steps.{place_at, answer_to, board_past, answers_text, board_in}
+use Rattle.rules.proofs.Answered.{by-number}
 use Rattle.rules.proofs.Numbers.{up-to-ten, told-number}
 use Rattle.listing_steps.specs.Walks.{Walks, step_at, steps_from, Stepped, Ran}
 
 -- ---- the number of an answer
-answer-known : (j : Panel) (count : ℕ) (b : Board) (s : Step) → answer_to j count b s ≤ 10
+
+-- what a call answers has the number that its checks give, whatever it is called with
+pub lay-number-of : (j : Panel) (count : ℕ) (b : Board) (place : World) (colour : ℕ)
+    → number_of (laying j count b place colour) ≡ refusal (lay_checks j count b place colour)
+lay-number-of j count b place colour =
+    let cs = lay_checks j count b place colour in told-number (refusal cs) tt (up-to-ten cs refl)
+
+pub lift-number-of : (j : Panel) (count : ℕ) (b : Board) (place : World) → number_of (lifting j count b place) ≡ refusal (lift_checks j count b place)
+lift-number-of j count b place =
+    let cs = lift_checks j count b place in told-number (refusal cs) tt (up-to-ten cs refl)
+
+-- and every answer is the one that its number names
+pub number-answered : (a : Answer Unit) → answered (number_of a) tt ≡ a
+unfolding refusal
+number-answered (Ok tt) = refl
+number-answered (Err r) = sym (by-number (number r unless false) refl)
+
+step-number-of : (j : Panel) (count : ℕ) (b : Board) (s : Step) → number_of (answered {A = Unit {0}} (answer_to j count b s) tt) ≡ answer_to j count b s
 unfolding answer_to
-answer-known j count b (lay row col colour) = up-to-ten (lay_checks j count b (place_at row col) colour) refl
-answer-known j count b (lift row col) = up-to-ten (lift_checks j count b (place_at row col)) refl
+step-number-of j count b (lay row col colour) = lay-number-of j count b (place_at row col) colour
+step-number-of j count b (lift row col) = lift-number-of j count b (place_at row col)
 
 -- ---- the step somewhere in the list
 first_of : (s : Step) (x : Steps) → is_whole (and_then s x) ≡ true → (list_of (and_then s x) ≡ s ∷ list_of x) × (is_whole x ≡ true)
@@ -156,7 +176,7 @@ took-lift j count b s row col e p g =
 pub stepped : {a : Answer Unit} {n at r : ℕ} {x y : List ℕ} {c : Board} (j : Panel) (count : ℕ) (b : Board) (s : Step)
     → Gives (answered (answer_to j count b s) tt) (board_past j count b s) a c → n ≡ number_of a → Prints (number_line n) at x r y → Stepped j count b s at x r c y
 stepped j count b s g q w =
-    record { leaves = g.leaves; writes = writes_as (ap number_line (q ∙ ap number_of g.answered ∙ told-number (answer_to j count b s) tt (answer-known j count b s))) w }
+    record { leaves = g.leaves; writes = writes_as (ap number_line (q ∙ ap number_of g.answered ∙ step-number-of j count b s)) w }
 
 -- a number of the input as a coordinate
 pub coordinate : {n : ℕ} → n ≤ max_number → to_z w32 n ≡ pos n
