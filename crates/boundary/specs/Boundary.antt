@@ -1,6 +1,7 @@
 -- Each answer at the boundary: its number (0 where the call is accepted, else document 01's refusal number) and what the slices lent for
 -- its values hold then. An entry past the end of a slice is not stored; a refused call stores none. `Tells` is the promise of a function
--- that tells an answer so, by what of an accepted one is stored; `Numbered` that of one that tells the answer of a call which writes.
+-- that tells an answer so, by what of an accepted one is stored; `Numbered` that of one that tells the answer of a call which writes, and
+-- `NumberedBy` the same in whatever way answers are numbered.
 use Rattle.std.specs.Prelude.{ℕ, ◌≡◌, Bool, List, Option, Some, None, Ok, Err}
 use Rattle.base.specs.Refusal.{Gives}
 use Rattle.boundary_slots.specs.Slots.{put, digit_of}
@@ -13,10 +14,14 @@ use Rattle.rules.specs.declared.RanOut.{RanOut}
 use Rattle.rules.specs.declared.Spans.{Spans}
 
 -- r is the number of the answer of which, and of what the call leaves, its promise holds
-pub record Numbered {A B : Type 0} (promise : Answer A → B → Type 0) (r : ℕ) (left : B) : Type 0 where
-  pub answer : Answer A
-  pub numbers : r ≡ number_of answer
+pub record NumberedBy {A B : Type 0} (number : A → ℕ) (promise : A → B → Type 0) (r : ℕ) (left : B) : Type 0 where
+  pub answer : A
+  pub numbers : r ≡ number answer
   pub promised : promise answer left
+
+-- by the number of the refusal
+abbrev pub Numbered : {A B : Type 0} → (Answer A → B → Type 0) → ℕ → B → Type 0
+Numbered promise = NumberedBy number_of promise
 
 -- what is left of the slices lent for an answer's values
 abbrev pub told_left : {A B : Type 0} → (A → B → B) → Answer A → B → B
