@@ -44,12 +44,14 @@ pub fn take_next(queue: ForcedPipeline) -> Taken
     queue_entries::take_next(queue)
 }
 
+#[tactic(auto, using(rules::proofs::Answered::answers), unfolding(rules::specs::Forced::queue_empty, rules::specs::Forced::queue_length))]
 pub fn is_empty(queue: ForcedPipeline) -> Result<bool, Refusal>
     ensures { result ≡ queue_empty queue }
 {
     Ok(len(queue)? == 0)
 }
 
+#[tactic(auto, using(rules::proofs::Answered::answers), unfolding(rules::specs::Forced::queue_length))]
 pub fn len(queue: ForcedPipeline) -> Result<usize, Refusal>
     ensures { result ≡ queue_length queue }
 {
