@@ -7,8 +7,8 @@ ghost use Rattle.copy_checks.specs.Laid.{rows_laid, Sized};
 
 use rules::Pads;
 
-// One row's part becomes that row. By a loop: `copy_from_slice` is a call of the C library's memmove, which would be a name more that the
-// desk's archive needs from outside, and the dynamic linker's stack where it is bound at the first call.
+// One row's part becomes that row. By a loop: `copy_from_slice` is a call of the C library's memmove, which would be a name that the desk's
+// archive needs from outside, and the dynamic linker's stack where it is bound at the first call.
 fn lay_row<T: Copy>(part: &mut [T], row: &[T])
     requires { length part.old ≡ length row.now }
     ensures { after part ≡ row.now }

@@ -1,5 +1,5 @@
 // The pads along one side and along both. A sum of coordinates, offsets, sides and pads is taken in 64 bits, where none overflows.
-ghost use Rattle.std.specs.Prelude.{◌≡◌, true, ◌≤◌};
+ghost use Rattle.std.specs.Prelude.{◌≡◌, true, ◌-◌, ◌≤◌};
 ghost use Rattle.rules.specs.Bounds.{max_board_side, max_radius};
 ghost use Rattle.rules.specs.Tests.{board_sides, offset_fits};
 ghost use Rattle.rules.specs.Places.{first_of, last_of, pad_before, pad_after, boxed_before, boxed_after, pads_of, boxed_pads, extension_by};
@@ -38,12 +38,22 @@ fn pad_after(side: usize, coordinate: i32, offset: i32, radius: usize) -> usize
     places::clip_to(coordinate as i64 + radius as i64 - last_of(side, offset))
 }
 
+// What is left of a pad; a function, since both boxed pads are made of it.
+fn kept(pad: usize, past: usize) -> usize
+    ensures { result ≡ pad - past }
+{
+    pad.saturating_sub(past)
+}
+
 // The pad before a side, less what of it lies before the box.
 fn boxed_before(least: i32, offset: i32, pad: usize) -> usize
     requires { pad ≤ max_pad }
     ensures { result ≡ boxed_before least offset pad }
 {
-    pad.saturating_sub(places::clip_to(least as i64 - (first_of(offset) - pad as i64)))
+    kept(
+        pad,
+        places::clip_to(least as i64 - (first_of(offset) - pad as i64)),
+    )
 }
 
 // The pad after a side, less what of it lies past the box.
@@ -51,7 +61,10 @@ fn boxed_after(most: i32, side: usize, offset: i32, pad: usize) -> usize
     requires { (side ≤ max_board_side) × (pad ≤ max_pad) }
     ensures { result ≡ boxed_after most side offset pad }
 {
-    pad.saturating_sub(places::clip_to(last_of(side, offset) + pad as i64 - most as i64))
+    kept(
+        pad,
+        places::clip_to(last_of(side, offset) + pad as i64 - most as i64),
+    )
 }
 
 pub fn pads_of(rows: usize, cols: usize, offset: Offset, place: World, radius: usize) -> Pads

@@ -19,7 +19,7 @@ overflow_sub-last_of c =
 pub returns : goal.returns
 unfolding boxed_after
 returns c =
-    c.saturating_sub.ensures
+    c.kept.ensures
     ∙ ap (λ (n : ℕ). c.args.pad - n)
     (c.clip_to.ensures
     ∙ ap clip (subbed (added (last-is c.ranges.offset c.requires.0 c.last_of.ensures) (pad-is c.requires.1) tt) (widened c.ranges.most) tt).is)

@@ -19,7 +19,7 @@ overflow_sub-least c =
 pub returns : goal.returns
 unfolding boxed_before
 returns c =
-    c.saturating_sub.ensures
+    c.kept.ensures
     ∙ ap (λ (n : ℕ). c.args.pad - n)
     (c.clip_to.ensures
     ∙ ap clip (subbed (widened c.ranges.least) (subbed (first-is c.ranges.offset c.first_of.ensures) (pad-is c.requires) tt) tt).is)
