@@ -19,11 +19,7 @@ const LONGEST_FILE: u64 = 24576;
 const MOST_RECORDS: usize = 100;
 
 // Replays the records one by one, a hundred at the most, up to the first that differs.
-fn replay_all(
-    rt: &impl Print,
-    step: fn(&Record) -> bool,
-    records: &[u8],
-) -> io::Result<()>
+fn replay_all(rt: &impl Print, step: fn(&Record) -> bool, records: &[u8]) -> io::Result<()>
     requires { IsAlwaysCallable step }
 {
     let mut same = 0u32;
